@@ -1,8 +1,12 @@
 use Rattle.std.specs.Prelude.{◌≡◌, ℕ, ◌+◌, ◌-◌, ◌^◌, ◌<◌, ◌≤◌, min, List, take, length, Option, Some, None, Result, Ok, Err}
 use Rattle.std.specs.Option.{option_map}
+use Rattle.px_base.specs.declared.outside.LibraryTrouble.{LibraryTrouble}
+use Rattle.px_base.specs.declared.outside.LibraryTrouble.TheVariants as library
+use Rattle.px_base.specs.declared.outside.SinkTrouble.{SinkTrouble}
+use Rattle.px_base.specs.declared.outside.SinkTrouble.TheVariants as sink
 use Rattle.std.specs.Io.KnownBytes.{Appends, Consumes, IsAtEnd}
 
--- A count of faults rose between two moments, or stands at its greatest value.
+-- A count of faults rose between two moments. At its greatest value it can't, and then this says nothing.
 abbrev pub Rose : ℕ → ℕ → Type 0
 Rose before now = min (before + 1) (2 ^ 64 - 1) ≤ now
 
@@ -31,3 +35,15 @@ Grows before now piece = (n : ℕ) × (n ≤ length piece) × Appends before now
 abbrev pub Takes : {E : Type 0} → Option (List ℕ) → Option (List ℕ) → Result ℕ E → List ℕ → Type 0
 Takes before now (Ok n) piece = Appends before now (take n piece)
 Takes before now (Err trouble) piece = Grows before now piece
+
+-- a library's count of faults stands still unless it failed
+abbrev pub ModuleIsCalm : {T : Type 0} → ℕ → ℕ → Result T LibraryTrouble → Type 0
+ModuleIsCalm before now (Ok given) = now ≡ before
+ModuleIsCalm before now (Err library.Failed) = Unit {0}
+ModuleIsCalm before now (Err library.NoMemory) = now ≡ before
+
+-- a sink's count of faults stands still unless it failed, or took nothing of a piece that has some
+abbrev pub WriteIsCalm : ℕ → ℕ → List ℕ → Result ℕ SinkTrouble → Type 0
+WriteIsCalm before now piece (Ok n) = (n ≡ 0 → length piece ≡ 0) → now ≡ before
+WriteIsCalm before now piece (Err sink.Failed) = Unit {0}
+WriteIsCalm before now piece (Err sink.NoMemory) = now ≡ before

@@ -1,5 +1,5 @@
-ghost use Rattle.std.specs.Prelude.{◌≡◌, ℕ, ◌<◌, ◌≤◌, List, Option, length, IfOk, IfSome, OnErr, IsErrOf};
-ghost use Rattle.px_base.specs.Outside.{Rose, Hands, Reads, Takes, handed_limit};
+ghost use Rattle.std.specs.Prelude.{◌≡◌, ℕ, ◌<◌, ◌≤◌, List, Option, length, IfOk, IfSome, OnErr, OnOk, IsErrOf};
+ghost use Rattle.px_base.specs.Outside.{Rose, Hands, ModuleIsCalm, Reads, Takes, WriteIsCalm, handed_limit};
 
 use crate::refusals::Failed;
 use crate::sequences::Bytes;
@@ -7,12 +7,15 @@ use std::alloc::{AllocError, AllocFailed, Global};
 use std::marker::Sync;
 use thiserror::Error;
 
+/// The greatest number of bytes of one module that a library hands over.
+pub(crate) const HANDED_LIMIT: usize = 1_048_577;
+
 /// Where modules are found by their names.
 pub trait Library {
     /// The bytes that each name stands for, or `None` where the library doesn't tell.
     ghost holds: { Self → Option (List ℕ → Option (List ℕ)) };
 
-    /// How often the library has failed; the count stands still at 2^64 - 1.
+    /// How often the library has failed: the count rises at calls that fail alone, and stands still at 2^64 - 1.
     ghost faults: { Self → ℕ };
 
     /// The bytes of the module of this name, at most its first 1,048,577, or `None` where the name isn't held.
@@ -24,7 +27,8 @@ pub trait Library {
         ensures short { IfOk result (λ given. IfSome given (λ bytes. length bytes ≤ handed_limit)) }
         ensures map { holds self.new ≡ holds self.old }
         ensures later { faults self.old ≤ faults self.new }
-        ensures cause { IsErrOf result LibraryTrouble.Failed → Rose (faults self.old) (faults self.new) };
+        ensures cause { IsErrOf result LibraryTrouble.Failed → Rose (faults self.old) (faults self.new) }
+        ensures calm { ModuleIsCalm (faults self.old) (faults self.new) result };
 }
 
 /// A stream of bytes that is read.
@@ -32,7 +36,7 @@ pub trait Source {
     /// The bytes that are left, or `None` where the source doesn't tell.
     ghost left: { Self → Option (List ℕ) };
 
-    /// How often the source has failed; the count stands still at 2^64 - 1.
+    /// How often the source has failed: the count rises at calls that fail alone, and stands still at 2^64 - 1.
     ghost faults: { Self → ℕ };
 
     /// Puts the next bytes at the buffer's start and returns how many: 0 for a buffer with room only at the end.
@@ -43,7 +47,8 @@ pub trait Source {
         ensures bound { IfOk result (λ n. n ≤ length into.old) }
         ensures bytes { Reads (left self.old) (left self.new) result into.new }
         ensures later { faults self.old ≤ faults self.new }
-        ensures cause { OnErr result (Rose (faults self.old) (faults self.new)) };
+        ensures cause { OnErr result (Rose (faults self.old) (faults self.new)) }
+        ensures calm { OnOk result (faults self.new ≡ faults self.old) };
 }
 
 /// A stream of bytes that is written.
@@ -51,7 +56,7 @@ pub trait Sink {
     /// The bytes that the sink has taken, or `None` where it doesn't tell.
     ghost taken: { Self → Option (List ℕ) };
 
-    /// How often the sink has failed; the count stands still at 2^64 - 1.
+    /// How often the sink has failed: the count rises at calls that fail alone, and stands still at 2^64 - 1.
     ghost faults: { Self → ℕ };
 
     /// Takes the first bytes of the piece and returns how many. To take none of a piece that has some is a fault.
@@ -63,7 +68,8 @@ pub trait Sink {
         ensures bytes { Takes (taken self.old) (taken self.new) result piece.now }
         ensures later { faults self.old ≤ faults self.new }
         ensures cause { IsErrOf result SinkTrouble.Failed → Rose (faults self.old) (faults self.new) }
-        ensures stall { result ≡ Ok 0 → 0 < length piece.now → Rose (faults self.old) (faults self.new) };
+        ensures stall { result ≡ Ok 0 → 0 < length piece.now → Rose (faults self.old) (faults self.new) }
+        ensures calm { WriteIsCalm (faults self.old) (faults self.new) piece.now result };
 }
 
 /// Where a test may hold a member of a team for a while. The program's own gate is always open.
