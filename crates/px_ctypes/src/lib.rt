@@ -1,13 +1,23 @@
-// A library with one function.
+//! The arithmetic of the C integer types, on whole numbers.
 #![tactic(auto)]
 
-ghost use Rattle.std.specs.Prelude.{◌≡◌};
-ghost use Rattle.px_ctypes.specs.Echo.{echo_of};
+mod conversions;
+mod division;
+mod faults;
+mod laws;
+mod operators;
+mod types;
+mod wrapping;
 
-// The `ensures` clause is the contract: what `echo` returns is `echo_of` of its argument, a definition
-// in `specs/Echo.antt`, which a caller's clause can cite too.
-pub fn echo(x: usize) -> usize
-    ensures { result ≡ echo_of x }
-{
-    x
-}
+pub use conversions::{common, convert, from_object, promoted};
+pub use laws::{
+    bitwise_by_words, common_type_holds_operands, division_is_exact,
+    division_overflows_at_minus_one, quotient_and_remainder_give_back, wrapping_is_exact,
+    wrapping_on_the_way,
+};
+pub use operators::{binary, compare, unary};
+pub use types::size_of;
+pub use wrapping::wrap;
+
+#[cfg(test)]
+mod tests;

@@ -1,0 +1,22 @@
+use Rattle.std.proofs.Common.{◌∙◌, ◌<◌, ◌^◌, ap, FitsSigned, bit_or, arith, rules}
+use Rattle.std.specs.Int.{w128}
+use Rattle.std.proofs.lemmas.Int.{ints, to_z_pos, to_z-of_z}
+use Rattle.std.proofs.lemmas.Nat.{or_mod, or_lt}
+use Rattle.px_ctypes.specs.Wrapping.{wrap}
+use Rattle.px_ctypes.proofs.WrapLaws.{wrap-bitwise}
+use Rattle.px_ctypes.proofs.operators.bitwise_or.Goals as goal
+
+pub returns : goal.returns
+returns c =
+    let left = c.ranges.a in
+    let right = c.ranges.b in
+    let answer : FitsSigned w128 c.wrap.result = search rules in
+    let low = simp to_z-of_z at c.low_word.ensures in
+    let low2 = simp to_z-of_z at c.low_word-2.ensures in
+    let small : bit_or c.low_word.result c.low_word-2.result < 2 ^ 64 = or_lt 64 c.low_word.result c.low_word-2.result (search rules) (search rules) in
+    simp to_z-of_z (c.wrap.ensures.value ∙ ap (wrap c.args.t) (to_z_pos w128 (bit_or c.low_word.result c.low_word-2.result) (omega arith)) ∙ wrap-bitwise bit_or or_mod c.args.t c.args.a c.args.b _ _ low low2)
+
+pub overflow_cast-low_word : goal.overflow_cast-low_word
+overflow_cast-low_word c =
+    let small : bit_or c.low_word.result c.low_word-2.result < 2 ^ 64 = or_lt 64 c.low_word.result c.low_word-2.result (search rules) (search rules) in
+    omega (arith, ints)
