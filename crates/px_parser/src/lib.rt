@@ -1,13 +1,16 @@
-// A library with one function.
+//! Reads the text of a module.
 #![tactic(auto)]
 
-ghost use Rattle.std.specs.Prelude.{◌≡◌};
-ghost use Rattle.px_parser.specs.Echo.{echo_of};
+mod cursor;
+mod declarations;
+mod first_form;
+mod statements;
+mod sums;
 
-// The `ensures` clause is the contract: what `echo` returns is `echo_of` of its argument, a definition
-// in `specs/Echo.antt`, which a caller's clause can cite too.
-pub fn echo(x: usize) -> usize
-    ensures { result ≡ echo_of x }
-{
-    x
-}
+pub use first_form::{
+    FirstAtom, FirstAtoms, FirstLine, FirstLines, FirstModule, FirstSum, FirstTerm, first,
+    first_form_is_unique,
+};
+
+#[cfg(test)]
+mod tests;

@@ -1,0 +1,5 @@
+mod Items
+mod Lines
+mod Numbers
+mod Spellings
+mod Tables
