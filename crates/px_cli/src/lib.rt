@@ -1,13 +1,13 @@
-// A library with one function.
+//! The calls that the program makes.
 #![tactic(auto)]
 
-ghost use Rattle.std.specs.Prelude.{◌≡◌};
-ghost use Rattle.px_cli.specs.Echo.{echo_of};
+mod replies;
+mod running;
+mod top_call;
+mod words;
+mod writing;
 
-// The `ensures` clause is the contract: what `echo` returns is `echo_of` of its argument, a definition
-// in `specs/Echo.antt`, which a caller's clause can cite too.
-pub fn echo(x: usize) -> usize
-    ensures { result ≡ echo_of x }
-{
-    x
-}
+pub use top_call::{Report, cython_main};
+
+#[cfg(test)]
+mod tests;

@@ -1,0 +1,5 @@
+mod ReplyLemmas
+mod RunLemmas
+mod TopCallLemmas
+mod WordLemmas
+mod WritingLemmas

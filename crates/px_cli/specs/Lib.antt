@@ -1,0 +1,6 @@
+pub mod Answer
+pub mod FirstMeaning
+pub mod ModuleAnswer
+pub mod Registers
+pub mod Words
+pub mod Writing

@@ -1,0 +1,4 @@
+//! Whole calls over an outside in memory. The expected bytes are those of the rules.
+
+mod memory;
+mod scripted;

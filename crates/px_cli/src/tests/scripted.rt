@@ -1,0 +1,152 @@
+use super::memory::{FIRST, command_line, library_of};
+use crate::cython_main;
+use px_base::{
+    Bytes, Library, LibraryTrouble, MemorySource, Numbers, OpenGate, Sink, SinkTrouble, Status,
+};
+use std::alloc::Global;
+use std::test::Fail;
+
+/// A library that has no memory for its answers.
+#[derive(Clone, Copy)]
+struct StarvedLibrary;
+
+impl Library for StarvedLibrary {
+    ghost use Rattle.std.specs.Prelude.{None};
+
+    ghost holds = { λ _. None };
+
+    ghost faults = { λ _. 0 };
+
+    fn module(&mut self, _alloc: Global, _name: &str) -> Result<Option<Bytes>, LibraryTrouble> {
+        Err(LibraryTrouble::NoMemory)
+    }
+}
+
+/// A sink that answers its first writes by a script, and takes every piece after these whole. In the script a digit is
+/// the most bytes that a write takes, `f` a failure, and `m` want of memory.
+#[derive(Drop)]
+struct ScriptedSink {
+    script: &'static [u8],
+    calls: usize,
+    bytes: Vec<u8>,
+    faults: u64,
+}
+
+fn sink_of(alloc: Global, script: &'static str) -> ScriptedSink {
+    ScriptedSink {
+        script: script.as_bytes(),
+        calls: 0,
+        bytes: Vec::new(alloc),
+        faults: 0,
+    }
+}
+
+/// The most bytes that a write takes, by the script, or its trouble.
+fn most_bytes(script: &[u8], call: usize) -> Result<usize, SinkTrouble> {
+    match script.get(call) {
+        Some(b'f') => Err(SinkTrouble::Failed),
+        Some(b'm') => Err(SinkTrouble::NoMemory),
+        Some(digit) => Ok(digit.saturating_sub(b'0') as usize),
+        None => Ok(usize::MAX),
+    }
+}
+
+impl Sink for ScriptedSink {
+    ghost use Rattle.std.specs.Prelude.{None};
+
+    ghost taken = { λ _. None };
+
+    ghost faults = { λ sink. sink.faults };
+
+    fn write(&mut self, piece: &[u8]) -> Result<usize, SinkTrouble> {
+        let response = most_bytes(self.script, self.calls);
+        self.calls = self.calls.saturating_add(1);
+        match response {
+            Ok(most) => {
+                let count = most.min(piece.len());
+                self.bytes.extend_from_slice(&piece[..count])?;
+                if count == 0 && !piece.is_empty() {
+                    self.faults = self.faults.saturating_add(1);
+                }
+                Ok(count)
+            }
+            Err(SinkTrouble::Failed) => {
+                self.faults = self.faults.saturating_add(1);
+                Err(SinkTrouble::Failed)
+            }
+            Err(SinkTrouble::NoMemory) => Err(SinkTrouble::NoMemory),
+        }
+    }
+}
+
+/// Runs `m.pyx` of a library, with a script for each sink, and gives the status and the sinks.
+fn called<L: Library>(
+    alloc: Global,
+    library: &mut L,
+    scripts: (&'static str, &'static str),
+) -> Result<(Status, ScriptedSink, ScriptedSink), Fail> {
+    let words = command_line(alloc, "run m.pyx")?;
+    let mut input = MemorySource::new(Bytes::new(alloc), 1, Numbers::new(alloc));
+    let mut out = sink_of(alloc, scripts.0);
+    let mut err = sink_of(alloc, scripts.1);
+    let report = cython_main(
+        alloc,
+        words.as_slice(),
+        library,
+        &mut input,
+        &mut out,
+        &mut err,
+        &OpenGate,
+    );
+    Ok((report.status, out, err))
+}
+
+/// A module, the scripts of out and err, the status, and what out and err took.
+type Row = (
+    &'static str,
+    &'static str,
+    &'static str,
+    Status,
+    &'static str,
+    &'static str,
+);
+
+const OUT_OF_MEMORY: &str = "out of memory\n";
+
+static ROWS: [Row; 10] = [
+    (FIRST, "m", "", Status::NoMemory, "", OUT_OF_MEMORY),
+    (FIRST, "4m", "f", Status::NoMemory, "40\n1", ""),
+    ("", "", "m", Status::NoMemory, "", OUT_OF_MEMORY),
+    ("", "", "mf", Status::NoMemory, "", ""),
+    ("", "", "mm", Status::NoMemory, "", ""),
+    (FIRST, "0", "", Status::WriteFault, "", ""),
+    (FIRST, "30", "", Status::WriteFault, "40\n", ""),
+    ("", "", "20", Status::WriteFault, "", "m."),
+    (
+        "",
+        "f",
+        "",
+        Status::Refused,
+        "",
+        "m.pyx:1:1: E27 not in this language\n",
+    ),
+    (FIRST, "", "f", Status::Done, "40\n1606\n", ""),
+];
+
+#[test]
+fn stalls_and_wants_of_memory(rt: HostRuntime) -> Result<(), Fail> {
+    let alloc = rt.alloc();
+    let (status, out, err) = called(alloc, &mut StarvedLibrary, ("", ""))?;
+    assert_eq!(rt; status, Status::NoMemory);
+    assert_eq!(rt; out.bytes.len(), 0);
+    assert_eq!(rt; err.bytes.as_slice(), OUT_OF_MEMORY.as_bytes());
+    for row in &ROWS {
+        let bytes = Bytes::from_slice(alloc, row.0.as_bytes())?;
+        let mut library = library_of(alloc, bytes, Numbers::new(alloc))?;
+        let (status, out, err) = called(alloc, &mut library, (row.1, row.2))?;
+        assert_eq!(rt; status, row.3);
+        assert_eq!(rt; out.bytes.as_slice(), row.4.as_bytes());
+        assert_eq!(rt; err.bytes.as_slice(), row.5.as_bytes());
+    }
+    Ok(())
+}
