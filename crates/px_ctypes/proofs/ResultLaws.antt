@@ -1,5 +1,7 @@
 -- The results of the operators: they are values of the type, and a division overflows at one pair alone.
-use Rattle.std.proofs.Common.{◌≡◌, ◌≢◌, ℕ, zero, suc, ◌<◌, ◌^◌, ℤ, pos, negsuc, neg_ℤ, ◌&&◌, ◌-◌, ◌+ℤ◌, ◌-ℤ◌, ◌*ℤ◌, ◌≤ℤ◌, ◌<ℤ◌, refl, sym, ◌∙◌, ap, subst, arith, ◌⊎◌, inl, inr, ⊎_elim, Bool, true, false, if◌then◌else◌, int_lt, int_le, unsigned_abs, bit_and, bit_or, bit_xor, IfOk, Ok, Err}
+use Rattle.std.proofs.Common.{◌≡◌, ◌≢◌, ℕ, zero, suc, ◌<◌, ◌^◌, ℤ, pos, negsuc, neg_ℤ, ◌&&◌, ◌-◌, ◌+ℤ◌, ◌-ℤ◌, ◌*ℤ◌, ◌≤ℤ◌, ◌<ℤ◌, refl, sym, ◌∙◌, ap, subst, arith, ◌⊎◌, inl, inr, ⊎_elim, Bool, true, false, ◌==◌, if◌then◌else◌, int_lt, int_le, unsigned_abs, bit_and, bit_or, bit_xor, IfOk, Ok, Err}
+use Rattle.std.specs.Int.{w128, cast_unsigned}
+use Rattle.std.proofs.lemmas.Bool.Decides.{nat_tests}
 use Rattle.std.proofs.lemmas.Int.{ints}
 use Rattle.std.proofs.lemmas.Nat.{div-add-mod', pow_pos, and_le_l, or_lt, xor_lt}
 use Rattle.px_base.specs.declared.c_types.CType.{CType}
@@ -102,6 +104,19 @@ shift_by : (t : CType) (counts : Bool) (n : ℤ) → IsInRange t n → IfOk (if 
 shift_by t true n h = h
 shift_by t false n h = tt
 
+-- a value of the type may stand on the right of each operator
+pub operand_in_range : (op : BinOp) (t : CType) (b : ℤ) → IsInRange t b → IsOperand op t b
+operand_in_range Add t b h = h
+operand_in_range Sub t b h = h
+operand_in_range Mul t b h = h
+operand_in_range FloorDiv t b h = h
+operand_in_range Mod t b h = h
+operand_in_range Shl t b h = tt
+operand_in_range Shr t b h = tt
+operand_in_range BitAnd t b h = h
+operand_in_range BitOr t b h = h
+operand_in_range BitXor t b h = h
+
 -- the result of a binary operator is a value of the type
 pub binary_in_range : (op : BinOp) (t : CType) (a b : ℤ) (cdivision : Bool) → IsInRange t a → IsOperand op t b → IfOk (binary_value op t a b cdivision) (λ n. IsInRange t n)
 binary_in_range Add t a b cdivision h k = wrap-in_range t (a +ℤ b)
@@ -202,3 +217,25 @@ word-xor t a b = word-wrap t (bit_xor (word_of t a) (word_of t b)) (xor_lt (bits
 
 pub word-not : (t : CType) (a : ℤ) → word_of t (unary_value Invert t a) ≡ 2 ^ bits t - 1 - word_of t a
 word-not t a = word-wrap t (2 ^ bits t - 1 - word_of t a) (omega (arith, word_below t a))
+
+-- ---- the code's tests
+
+suc_nonzero : (n : ℕ) → (suc n == 0) ≡ false
+suc_nonzero n = grind (arith, nat_tests)
+
+pub tested_nonzero : (b : ℤ) → (cast_unsigned w128 b ≡ 0 → ⊥) → is_zero b ≡ false
+tested_nonzero (pos zero) h = absurd (h refl)
+tested_nonzero (pos (suc n)) h = suc_nonzero n
+tested_nonzero (negsuc n) h = suc_nonzero n
+
+pub remainder_truncated : (a b r : ℤ) (none cdivision : Bool) → none ≡ false → cdivision ≡ true → r ≡ trunc_mod a b
+    → Ok r ≡ (if none then Err (fault_of ZeroDivisionError 1) else if cdivision then Ok (trunc_mod a b) else Ok (floor_mod a b))
+remainder_truncated a b r true cdivision e f g = cc
+remainder_truncated a b r false true e f g = ap Ok g
+remainder_truncated a b r false false e f g = cc
+
+pub remainder_floored : (a b r : ℤ) (none cdivision : Bool) → none ≡ false → cdivision ≡ false → r ≡ floor_mod a b
+    → Ok r ≡ (if none then Err (fault_of ZeroDivisionError 1) else if cdivision then Ok (trunc_mod a b) else Ok (floor_mod a b))
+remainder_floored a b r true cdivision e f g = cc
+remainder_floored a b r false true e f g = cc
+remainder_floored a b r false false e f g = ap Ok g

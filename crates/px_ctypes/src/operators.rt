@@ -1,4 +1,4 @@
-ghost use Rattle.std.specs.Prelude.{◌≡◌, ◌≢◌, ◌<◌, ◌^◌, ◌↔◌, ◌+ℤ◌, ◌-ℤ◌, ◌*ℤ◌, pos, bit_and, bit_or, bit_xor, IfOk, IsTrue, if◌then◌else◌, Some, None, int_lt, unsigned_abs};
+ghost use Rattle.std.specs.Prelude.{◌≡◌, ◌≢◌, ◌<◌, ◌^◌, ◌↔◌, ◌+ℤ◌, ◌-ℤ◌, ◌*ℤ◌, neg_ℤ, pos, bit_and, bit_or, bit_xor, IfOk, IsTrue, if◌then◌else◌, Some, None, int_lt, unsigned_abs};
 ghost use Rattle.px_base.specs.declared.c_types.BinOp.TheVariants.{Shl, Shr};
 ghost use Rattle.px_base.specs.declared.c_types.CType.TheVariants.{Bint};
 ghost use Rattle.px_base.specs.declared.c_types.UnOp.TheVariants.{Invert};
@@ -28,10 +28,10 @@ pub fn binary(op: BinOp, t: CType, a: i128, b: i128, cdivision: bool) -> Result<
     ensures value { result ≡ binary_value op t a b cdivision }
     ensures in_range { IfOk result (λ n. IsInRange t n) }
 {
-    result_of(op, t, a, b, cdivision)
+    binary_result(op, t, a, b, cdivision)
 }
 
-fn result_of(op: BinOp, t: CType, a: i128, b: i128, cdivision: bool) -> Result<i128, Fault>
+fn binary_result(op: BinOp, t: CType, a: i128, b: i128, cdivision: bool) -> Result<i128, Fault>
     requires arithmetic { t ≢ Bint }
     requires left { IsInRange t a }
     requires right { IsOperand op t b }
@@ -117,12 +117,12 @@ fn remainder(t: CType, a: i128, b: i128, cdivision: bool) -> Result<i128, Fault>
     ensures { result ≡ remainder_value t a b cdivision }
 {
     if b == 0 {
-        Err(fault(Kind::ZeroDivisionError, 1))
-    } else if cdivision {
-        Ok(truncated_remainder(a, b))
-    } else {
-        Ok(floored_remainder(a, b))
+        return Err(fault(Kind::ZeroDivisionError, 1));
     }
+    if cdivision {
+        return Ok(truncated_remainder(a, b));
+    }
+    Ok(floored_remainder(a, b))
 }
 
 /// The count of a shift, where it is at least 0 and below the width.
@@ -191,11 +191,27 @@ pub fn unary(op: UnOp, t: CType, a: i128) -> i128
     ensures value { result ≡ unary_value op t a }
     ensures in_range { IsInRange t result }
 {
+    unary_result(op, t, a)
+}
+
+fn unary_result(op: UnOp, t: CType, a: i128) -> i128
+    requires arithmetic { t ≢ Bint }
+    requires operand { IsInRange t a }
+    ensures { result ≡ unary_value op t a }
+{
     match op {
         UnOp::Plus => wrap(t, a),
-        UnOp::Minus => wrap(t, -a),
+        UnOp::Minus => negated(t, a),
         UnOp::Invert => inverted(t, a),
     }
+}
+
+fn negated(t: CType, a: i128) -> i128
+    requires arithmetic { t ≢ Bint }
+    requires operand { IsInRange t a }
+    ensures { result ≡ wrap t (neg_ℤ a) }
+{
+    wrap(t, -a)
 }
 
 fn inverted(t: CType, a: i128) -> i128

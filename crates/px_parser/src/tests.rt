@@ -1,49 +1,38 @@
-use crate::first_form::{FirstAtom, FirstLine, FirstModule, FirstSum, first};
+use crate::first_form::{FirstLine, FirstModule, FirstSum, first};
 use px_base::{Refusal, Trouble};
-use std::alloc::Global;
-use std::fmt::Write;
+use std::alloc::{AllocError, Global};
 use std::test::Fail;
 
-fn show_sum(out: &mut String, sum: &FirstSum) -> Result<(), Fail> {
+/// The products of a sum, each behind its sign.
+fn show_sum(alloc: Global, out: &mut String, sum: &FirstSum) -> Result<(), AllocError> {
     for term in sum.as_slice() {
-        let sign = if term.minus { '-' } else { '+' };
-        out.push(sign)?;
-        for factor in term.factors.as_slice() {
-            match factor {
-                FirstAtom::Name(name) => write!(out, " {}", char::from(*name))?,
-                FirstAtom::Number(number) => write!(out, " {number}")?,
-            }
-        }
-        out.push(';')?;
+        out.push_str(if term.minus { "-" } else { "+" })?;
+        let factors = format!(in alloc; "{:?}", term.factors.as_slice())?;
+        out.push_str(factors.as_str())?;
     }
     Ok(())
 }
 
-fn show_line(out: &mut String, line: &FirstLine) -> Result<(), Fail> {
+/// What a statement does, the name that it does it to, and its sum if it has one.
+fn parts(line: &FirstLine) -> (&str, u8, Option<&FirstSum>) {
     match line {
-        FirstLine::Declare(name, None) => write!(out, "long {} ", char::from(*name))?,
-        FirstLine::Declare(name, Some(value)) => {
-            write!(out, "long {} ", char::from(*name))?;
-            show_sum(out, value)?;
-        }
-        FirstLine::Assign(name, value) => {
-            write!(out, "set {} ", char::from(*name))?;
-            show_sum(out, value)?;
-        }
-        FirstLine::Print(value) => {
-            out.push_str("print ")?;
-            show_sum(out, value)?;
-        }
+        FirstLine::Declare(name, value) => ("long ", *name, value.as_ref()),
+        FirstLine::Assign(name, value) => ("set ", *name, Some(value)),
+        FirstLine::Print(value) => ("print ", b' ', Some(value)),
     }
-    Ok(())
 }
 
-/// The statements of a module, each with the signs and the factors of its products.
-fn shown(alloc: Global, module: &FirstModule) -> Result<String, Fail> {
+/// The statements of a module, each behind what it does.
+fn shown(alloc: Global, module: &FirstModule) -> Result<String, AllocError> {
     let mut out = String::new(alloc);
     for line in module.lines.as_slice() {
-        show_line(&mut out, line)?;
-        out.push('/')?;
+        let (word, name, value) = parts(line);
+        out.push_str(word)?;
+        out.push(char::from(name))?;
+        if let Some(sum) = value {
+            show_sum(alloc, &mut out, sum)?;
+        }
+        out.push_str("/")?;
     }
     Ok(out)
 }
@@ -51,19 +40,18 @@ fn shown(alloc: Global, module: &FirstModule) -> Result<String, Fail> {
 #[test]
 fn reads_modules(rt: HostRuntime) -> Result<(), Fail> {
     let table = [
-        ("def main():\n    print(1)\nmain()", "print + 1;/"),
-        ("def main():\n    print(1)\nmain()\n", "print + 1;/"),
+        ("def main():\n    print(1)\nmain()", "print  +[Number(1)]/"),
         (
-            "def main():\n    cdef long a\n    a = 1 + 2 * 3 - 4\n    print(a)\nmain()\n",
-            "long a /set a + 1;+ 2 3;- 4;/print + a;/",
+            "def main():\n    cdef long a\n    a = 1 + 2 * a - 4\n    print(a)\nmain()\n",
+            "long a/set a+[Number(1)]+[Number(2), Name(97)]-[Number(4)]/print  +[Name(97)]/",
         ),
         (
-            "def main():\n    cdef long z = 9223372036854775807\n    cdef long y = z * z - 0 - z\n    print(y)\nmain()\n",
-            "long z + 9223372036854775807;/long y + z z;- 0;- z;/print + y;/",
+            "def main():\n    cdef long z = 9223372036854775807\n    cdef long c = z * 10 * z - 0 - z\nmain()\n",
+            "long z+[Number(9223372036854775807)]/long c+[Name(122), Number(10), Name(122)]-[Number(0)]-[Name(122)]/",
         ),
         (
-            "def main():\n    cdef long c\n    c = 10\n    cdef long p\n    p = c * 100 * c + p\n    print(p)\nmain()\n",
-            "long c /set c + 10;/long p /set p + c 100 c;+ p;/print + p;/",
+            "def main():\n    cdef long p\n    p = 7\nmain()\n",
+            "long p/set p+[Number(7)]/",
         ),
     ];
     for (text, want) in table {

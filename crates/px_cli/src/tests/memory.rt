@@ -3,17 +3,20 @@ use px_base::{Bytes, Files, MemoryLibrary, MemorySink, MemorySource, Numbers, Op
 use std::alloc::Global;
 use std::test::Fail;
 
-/// A module that prints 40 and 1606.
-pub const FIRST: &str =
-    "def main():\n    cdef long a = 6\n    cdef long b = a * 7 - 2\n    print(b)\n    print(a + b * b)\nmain()\n";
+/// A module that prints 40 and 1606. It is a function, as the tables are, so that no goal shows its bytes.
+pub fn first_module() -> &'static str {
+    "def main():\n    cdef long a = 6\n    cdef long b = a * 7 - 2\n    print(b)\n    print(a + b * b)\nmain()\n"
+}
 
-const USAGE: &str =
-    "usage: pyxrun check FILE | list FILE | run FILE [--threads=T] [--turns=N] [--buffers] | simulate FILE --threads=T --seed=S [--turns=N] | generate SEED SIZE/";
+fn usage() -> &'static str {
+    "usage: pyxrun check FILE | list FILE | run FILE [--threads=T] [--turns=N] [--buffers] | simulate FILE --threads=T --seed=S [--turns=N] | generate SEED SIZE/"
+}
 
 /// A call in each line: the words, with an empty word as `''`; the module `m.pyx` that the library holds, a text, FIRST
 /// or a number of bytes `#`; the numbers of the calls of the library, out and err that fail, 0 for none, and the most
 /// bytes that a write takes; the status; what out and err took. A line end stands as `/`.
-const CALLS: &str = "\
+fn calls() -> &'static str {
+    "\
 run m.pyx;FIRST;0;0;0;999;0;40/1606/;
 run m.pyx;def main():/    cdef long a = 9223372036854775807/    print(a + 1)/main();0;0;0;999;0;-9223372036854775808/;
 run m.pyx;def main():/    cdef long z/    print(z)/    z = 10 - 3 - 2/    print(z)/main()/;0;0;0;999;0;0/5/;
@@ -44,19 +47,20 @@ Run m.pyx;FIRST;0;0;0;999;2;;USAGE
 m.pyx;FIRST;0;0;0;999;2;;USAGE
 m.pyx run;FIRST;0;0;0;999;2;;USAGE
 run m.pyx --threads=4;FIRST;0;0;0;999;2;;USAGE
-check m.pyx;FIRST;0;0;0;999;2;;USAGE";
+check m.pyx;FIRST;0;0;0;999;2;;USAGE"
+}
 
 /// Field `at` of a line.
-fn field(line: &str, at: usize) -> &str {
+pub fn field(line: &str, at: usize) -> &str {
     line.split(';').nth(at).unwrap_or("")
 }
 
-fn number(line: &str, at: usize) -> u64 {
+pub fn number(line: &str, at: usize) -> u64 {
     field(line, at).parse::<u64>().unwrap_or(u64::MAX)
 }
 
 /// The text that a field stands for.
-fn spelled(alloc: Global, text: &str) -> Result<Bytes, Fail> {
+pub fn spelled(alloc: Global, text: &str) -> Result<Bytes, Fail> {
     let mut bytes = Bytes::new(alloc);
     for byte in text.bytes() {
         bytes.push(if byte == b'/' { b'\n' } else { byte })?;
@@ -64,7 +68,7 @@ fn spelled(alloc: Global, text: &str) -> Result<Bytes, Fail> {
     Ok(bytes)
 }
 
-fn module_bytes(alloc: Global, line: &str) -> Result<Bytes, Fail> {
+pub fn module_bytes(alloc: Global, line: &str) -> Result<Bytes, Fail> {
     let text = field(line, 1);
     match text.parse::<usize>() {
         Ok(count) => {
@@ -74,7 +78,7 @@ fn module_bytes(alloc: Global, line: &str) -> Result<Bytes, Fail> {
             }
             Ok(bytes)
         }
-        Err(_) if text == "FIRST" => Ok(Bytes::from_slice(alloc, FIRST.as_bytes())?),
+        Err(_) if text == "FIRST" => Ok(Bytes::from_slice(alloc, first_module().as_bytes())?),
         Err(_) => spelled(alloc, text),
     }
 }
@@ -126,8 +130,8 @@ fn called(alloc: Global, line: &str) -> Result<(Report, MemorySink, MemorySink),
 
 #[test]
 fn answers(rt: HostRuntime) -> Result<(), Fail> {
-    assert_eq!(rt; CALLS.lines().count(), 31);
-    for line in CALLS.lines() {
+    assert_eq!(rt; calls().lines().count(), 31);
+    for line in calls().lines() {
         let (report, out, err) = called(rt.alloc(), line)?;
         assert_eq!(rt;
             report.status as u8 as u64,
@@ -141,7 +145,7 @@ fn answers(rt: HostRuntime) -> Result<(), Fail> {
             "out of {line}"
         );
         let text = field(line, 8);
-        let expected = spelled(rt.alloc(), if text == "USAGE" { USAGE } else { text })?;
+        let expected = spelled(rt.alloc(), if text == "USAGE" { usage() } else { text })?;
         assert_eq!(rt;
             err.bytes().as_slice(),
             expected.as_slice(),

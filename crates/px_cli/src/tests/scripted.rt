@@ -1,4 +1,4 @@
-use super::memory::{FIRST, command_line, library_of};
+use super::memory::{command_line, field, library_of, module_bytes, number, spelled};
 use crate::cython_main;
 use px_base::{
     Bytes, Library, LibraryTrouble, MemorySource, Numbers, OpenGate, Sink, SinkTrouble, Status,
@@ -101,52 +101,43 @@ fn called<L: Library>(
     Ok((report.status, out, err))
 }
 
-/// A module, the scripts of out and err, the status, and what out and err took.
-type Row = (
-    &'static str,
-    &'static str,
-    &'static str,
-    Status,
-    &'static str,
-    &'static str,
-);
-
-const OUT_OF_MEMORY: &str = "out of memory\n";
-
-static ROWS: [Row; 10] = [
-    (FIRST, "m", "", Status::NoMemory, "", OUT_OF_MEMORY),
-    (FIRST, "4m", "f", Status::NoMemory, "40\n1", ""),
-    ("", "", "m", Status::NoMemory, "", OUT_OF_MEMORY),
-    ("", "", "mf", Status::NoMemory, "", ""),
-    ("", "", "mm", Status::NoMemory, "", ""),
-    (FIRST, "0", "", Status::WriteFault, "", ""),
-    (FIRST, "30", "", Status::WriteFault, "40\n", ""),
-    ("", "", "20", Status::WriteFault, "", "m."),
-    (
-        "",
-        "f",
-        "",
-        Status::Refused,
-        "",
-        "m.pyx:1:1: E27 not in this language\n",
-    ),
-    (FIRST, "", "f", Status::Done, "40\n1606\n", ""),
-];
+/// A call in each line: nothing; the module `m.pyx`, a text or FIRST; the scripts of out and err; the status; what out
+/// and err took. A line end stands as `/`.
+fn calls() -> &'static str {
+    "\
+;FIRST;m;;7;;out of memory/
+;FIRST;4m;f;7;40/1;
+;;;m;7;;out of memory/
+;;;mf;7;;
+;;;mm;7;;
+;FIRST;0;;6;;
+;FIRST;30;;6;40/;
+;;;20;6;;m.
+;;f;;1;;m.pyx:1:1: E27 not in this language/
+;FIRST;;f;0;40/1606/;"
+}
 
 #[test]
 fn stalls_and_wants_of_memory(rt: HostRuntime) -> Result<(), Fail> {
     let alloc = rt.alloc();
-    let (status, out, err) = called(alloc, &mut StarvedLibrary, ("", ""))?;
+    assert_eq!(rt; calls().lines().count(), 10);
+    for line in calls().lines() {
+        let mut library = library_of(alloc, module_bytes(alloc, line)?, Numbers::new(alloc))?;
+        let (status, out, err) = called(alloc, &mut library, (field(line, 2), field(line, 3)))?;
+        assert_eq!(rt; status as u8 as u64, number(line, 4), "status of {line}");
+        let expected = spelled(alloc, field(line, 5))?;
+        assert_eq!(rt; out.bytes.as_slice(), expected.as_slice(), "out of {line}");
+        let expected = spelled(alloc, field(line, 6))?;
+        assert_eq!(rt; err.bytes.as_slice(), expected.as_slice(), "err of {line}");
+    }
+    Ok(())
+}
+
+#[test]
+fn no_memory_for_the_module(rt: HostRuntime) -> Result<(), Fail> {
+    let (status, out, err) = called(rt.alloc(), &mut StarvedLibrary, ("", ""))?;
     assert_eq!(rt; status, Status::NoMemory);
     assert_eq!(rt; out.bytes.len(), 0);
-    assert_eq!(rt; err.bytes.as_slice(), OUT_OF_MEMORY.as_bytes());
-    for row in &ROWS {
-        let bytes = Bytes::from_slice(alloc, row.0.as_bytes())?;
-        let mut library = library_of(alloc, bytes, Numbers::new(alloc))?;
-        let (status, out, err) = called(alloc, &mut library, (row.1, row.2))?;
-        assert_eq!(rt; status, row.3);
-        assert_eq!(rt; out.bytes.as_slice(), row.4.as_bytes());
-        assert_eq!(rt; err.bytes.as_slice(), row.5.as_bytes());
-    }
+    assert_eq!(rt; err.bytes.as_slice(), b"out of memory\n".as_slice());
     Ok(())
 }
