@@ -14,33 +14,33 @@ fn numbers(alloc: Global, items: &[u64]) -> Result<Numbers, Fail> {
     Ok(Numbers::from_slice(alloc, items)?)
 }
 
+/// Whether a library gave these bytes, where `-` stands for no file and `!` for Failed.
+fn gave(given: Result<Option<Bytes>, LibraryTrouble>, expected: &str) -> bool {
+    match given {
+        Ok(Some(bytes)) => bytes.as_slice() == expected.as_bytes(),
+        Ok(None) => expected == "-",
+        Err(LibraryTrouble::Failed) => expected == "!",
+        Err(LibraryTrouble::NoMemory) => false,
+    }
+}
+
 #[test]
 fn memory_library(rt: HostRuntime) -> Result<(), Fail> {
     let mut files = Files::new(rt.alloc());
-    files.push((
-        String::from_str(rt.alloc(), "a.pyx")?,
-        bytes(rt.alloc(), "first")?,
-    ))?;
-    files.push((
-        String::from_str(rt.alloc(), "b.pyx")?,
-        bytes(rt.alloc(), "other")?,
-    ))?;
-    files.push((
-        String::from_str(rt.alloc(), "a.pyx")?,
-        bytes(rt.alloc(), "second")?,
-    ))?;
+    for (name, text) in [("a.pyx", "first"), ("b.pyx", "other"), ("a.pyx", "second")] {
+        let name = String::from_str(rt.alloc(), name)?;
+        let text = bytes(rt.alloc(), text)?;
+        files.push((name, text))?;
+    }
     let mut library = MemoryLibrary::new(files, numbers(rt.alloc(), &[2])?);
-    let first = library.module(rt.alloc(), "a.pyx")?.ok_or("held")?;
-    assert_eq!(rt; first.as_slice(), b"first".as_slice());
-    assert!(rt;
-        matches!(
-            library.module(rt.alloc(), "b.pyx"),
-            Err(LibraryTrouble::Failed)
-        )
-    );
-    let other = library.module(rt.alloc(), "b.pyx")?.ok_or("held")?;
-    assert_eq!(rt; other.as_slice(), b"other".as_slice());
-    assert!(rt; library.module(rt.alloc(), "c.pyx")?.is_none());
+    for (name, expected) in [
+        ("a.pyx", "first"),
+        ("b.pyx", "!"),
+        ("b.pyx", "other"),
+        ("c.pyx", "-"),
+    ] {
+        assert!(rt; gave(library.module(rt.alloc(), name), expected), "{name}");
+    }
     Ok(())
 }
 
@@ -48,25 +48,31 @@ fn memory_library(rt: HostRuntime) -> Result<(), Fail> {
 fn memory_source(rt: HostRuntime) -> Result<(), Fail> {
     let text = bytes(rt.alloc(), "abcdefgh")?;
     let mut source = MemorySource::new(text, 3, numbers(rt.alloc(), &[2])?);
-    let mut buffer = [0u8; 5];
-    assert_eq!(rt; source.read(&mut buffer), Ok(3));
-    assert_eq!(rt; buffer, [97, 98, 99, 0, 0]);
-    assert_eq!(rt; source.read(&mut buffer), Err(Failed));
-    assert_eq!(rt; buffer, [97, 98, 99, 0, 0]);
-    assert_eq!(rt; source.read(&mut buffer[..2]), Ok(2));
-    assert_eq!(rt; source.read(&mut buffer), Ok(3));
-    assert_eq!(rt; buffer, [102, 103, 104, 0, 0]);
-    assert_eq!(rt; source.read(&mut buffer), Ok(0));
+    let mut buffer = *b".....";
+    for (room, expected, left) in [
+        (5, Ok(3), b"abc.."),
+        (5, Err(Failed), b"abc.."),
+        (2, Ok(2), b"dec.."),
+        (5, Ok(3), b"fgh.."),
+        (5, Ok(0), b"fgh.."),
+    ] {
+        assert_eq!(rt; source.read(&mut buffer[..room.min(5)]), expected);
+        assert_eq!(rt; buffer, *left);
+    }
     Ok(())
 }
 
 #[test]
 fn memory_sink(rt: HostRuntime) -> Result<(), Fail> {
     let mut sink = MemorySink::new(rt.alloc(), 3, numbers(rt.alloc(), &[2])?);
-    assert_eq!(rt; sink.write(b"abcdefgh"), Ok(3));
-    assert_eq!(rt; sink.write(b"defgh"), Err(SinkTrouble::Failed));
-    assert_eq!(rt; sink.write(b"de"), Ok(2));
-    assert_eq!(rt; sink.write(b""), Ok(0));
+    for (piece, expected) in [
+        ("abcdefgh", Ok(3)),
+        ("defgh", Err(SinkTrouble::Failed)),
+        ("de", Ok(2)),
+        ("", Ok(0)),
+    ] {
+        assert_eq!(rt; sink.write(piece.as_bytes()), expected);
+    }
     assert_eq!(rt; sink.bytes().as_slice(), b"abcde".as_slice());
     Ok(())
 }
@@ -125,59 +131,52 @@ fn refusal_lines(rt: HostRuntime) -> Result<(), Fail> {
     Ok(())
 }
 
-/// Some rows of the fault texts, and one that isn't there.
-const ROWS: [(Kind, u8, &str); 8] = [
-    (
-        Kind::ZeroDivisionError,
-        1,
-        "ZeroDivisionError: division by zero",
-    ),
-    (
-        Kind::OverflowError,
-        10,
-        "OverflowError: loop index does not fit",
-    ),
-    (
-        Kind::OverlapError,
-        15,
-        "OverlapError: views of a parallel loop overlap",
-    ),
-    (Kind::IndexError, 24, "IndexError: index out of range"),
-    (
-        Kind::ValueError,
-        29,
-        "ValueError: invalid literal for int()",
-    ),
-    (Kind::RecursionError, 31, "RecursionError: too many levels"),
-    (Kind::LimitError, 34, "LimitError: too many objects"),
-    (Kind::EOFError, 35, "EOFError"),
-];
-
 #[test]
 fn fault_lines(rt: HostRuntime) -> Result<(), Fail> {
-    for (kind, row, expected) in ROWS {
-        let said = Said::Row(row);
-        let line = fault_line(rt.alloc(), &Fault { kind, said })?;
-        assert_eq!(rt; utf8(rt.alloc(), &line)?.as_slice(), expected.as_bytes());
-    }
-    for (kind, expected) in [
-        (Kind::IndexError, "IndexError: index out of range (axis 2)"),
-        (Kind::ValueError, "ValueError: step of zero (axis 2)"),
-    ] {
-        let said = Said::Axis(2);
-        let line = fault_line(rt.alloc(), &Fault { kind, said })?;
-        assert_eq!(rt; utf8(rt.alloc(), &line)?.as_slice(), expected.as_bytes());
-    }
     let own = Chars::from_slice(rt.alloc(), &['π', '\u{10348}', '!'])?;
-    let fault = Fault {
-        kind: Kind::KeyError,
-        said: Said::Own(own),
-    };
-    let line = fault_line(rt.alloc(), &fault)?;
-    assert_eq!(rt;
-        utf8(rt.alloc(), &line)?.as_slice(),
-        "KeyError: π\u{10348}!".as_bytes()
-    );
+    for (kind, said, expected) in [
+        (
+            Kind::ZeroDivisionError,
+            Said::Row(1),
+            "ZeroDivisionError: division by zero",
+        ),
+        (
+            Kind::OverflowError,
+            Said::Row(10),
+            "OverflowError: loop index does not fit",
+        ),
+        (
+            Kind::OverlapError,
+            Said::Row(15),
+            "OverlapError: views of a parallel loop overlap",
+        ),
+        (
+            Kind::ValueError,
+            Said::Row(29),
+            "ValueError: invalid literal for int()",
+        ),
+        (
+            Kind::LimitError,
+            Said::Row(34),
+            "LimitError: too many objects",
+        ),
+        (Kind::EOFError, Said::Row(35), "EOFError"),
+        (
+            Kind::IndexError,
+            Said::Axis(2),
+            "IndexError: index out of range (axis 2)",
+        ),
+        (
+            Kind::ValueError,
+            Said::Axis(0),
+            "ValueError: step of zero (axis 0)",
+        ),
+        (Kind::KeyError, Said::Own(own), "KeyError: π\u{10348}!"),
+    ] {
+        let line = fault_line(rt.alloc(), &Fault { kind, said })?;
+        let line = utf8(rt.alloc(), &line)?;
+        assert_eq!(rt; line.as_slice(), expected.as_bytes());
+    }
     Ok(())
 }
 
@@ -246,25 +245,22 @@ impl Write for Stream {
 }
 
 #[test]
-fn adapters(rt: HostRuntime) -> Result<(), Fail> {
+fn adapters(rt: HostRuntime) {
     let mut library = FolderLibrary::new(&rt);
-    assert!(rt; library.module(rt.alloc(), "no_such_file.pyx")?.is_none());
-    assert!(rt; library.module(rt.alloc(), "/dev/null/a.pyx")?.is_none());
-    assert!(rt; matches!(library.module(rt.alloc(), "."), Err(LibraryTrouble::Failed)));
-    assert!(rt;
-        library
-            .module(rt.alloc(), "/dev/null")?
-            .ok_or("is there")?
-            .is_empty()
-    );
-
-    let mut buffer = [0u8; 5];
+    for (name, expected) in [
+        ("no_such_file.pyx", "-"),
+        ("/dev/null/a.pyx", "-"),
+        (".", "!"),
+        ("/dev/null", ""),
+    ] {
+        assert!(rt; gave(library.module(rt.alloc(), name), expected), "{name}");
+    }
+    let mut buffer = *b".....";
     let mut source = InputSource::new(b"abcdefg".as_slice());
-    assert_eq!(rt; source.read(&mut buffer), Ok(5));
-    assert_eq!(rt; source.read(&mut buffer), Ok(2));
-    assert_eq!(rt; buffer, [102, 103, 99, 100, 101]);
-    assert_eq!(rt; source.read(&mut buffer), Ok(0));
-
+    for (expected, left) in [(Ok(5), b"abcde"), (Ok(2), b"fgcde"), (Ok(0), b"fgcde")] {
+        assert_eq!(rt; source.read(&mut buffer), expected);
+        assert_eq!(rt; buffer, *left);
+    }
     let answers = [
         Err(ErrorKind::Interrupted),
         Ok(2),
@@ -272,10 +268,9 @@ fn adapters(rt: HostRuntime) -> Result<(), Fail> {
         Ok(0),
     ];
     let mut source = InputSource::new(Stream { calls: 0, answers });
-    assert_eq!(rt; source.read(&mut buffer), Ok(2));
-    assert_eq!(rt; source.read(&mut buffer), Err(Failed));
-    assert_eq!(rt; source.read(&mut buffer), Ok(0));
-
+    for expected in [Ok(2), Err(Failed), Ok(0)] {
+        assert_eq!(rt; source.read(&mut buffer), expected);
+    }
     let answers = [
         Err(ErrorKind::Interrupted),
         Ok(2),
@@ -283,10 +278,8 @@ fn adapters(rt: HostRuntime) -> Result<(), Fail> {
         Err(ErrorKind::BrokenPipe),
     ];
     let mut sink = OutputSink::new(Stream { calls: 0, answers });
-    assert_eq!(rt; sink.write(b"abc"), Ok(2));
-    assert_eq!(rt; sink.write(b"c"), Err(SinkTrouble::NoMemory));
-    assert_eq!(rt; sink.write(b"c"), Err(SinkTrouble::Failed));
-
+    for expected in [Ok(2), Err(SinkTrouble::NoMemory), Err(SinkTrouble::Failed)] {
+        assert_eq!(rt; sink.write(b"abc"), expected);
+    }
     OpenGate.at(0, Point::Begins);
-    Ok(())
 }

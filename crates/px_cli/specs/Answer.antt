@@ -40,6 +40,10 @@ pub record Facts : Type 0 where
   pub faults_before : ℕ
   pub faults_after : ℕ
 
+-- these facts
+abbrev pub facts_of : List (List ℕ) → Option (List ℕ → Option (List ℕ)) → ℕ → ℕ → Facts
+facts_of words map before after = record { words = words; map = map; faults_before = before; faults_after = after }
+
 -- the library didn't fail in the call
 abbrev pub IsUnbroken : Facts → Type 0
 IsUnbroken facts = facts.faults_after ≡ facts.faults_before
@@ -129,6 +133,10 @@ pub record Taking : Type 0 where
   pub after : Option (List ℕ)
   pub faults_before : ℕ
   pub faults_after : ℕ
+
+-- what a sink took from one moment to another, and its counts of faults then
+abbrev pub taking : Option (List ℕ) → Option (List ℕ) → ℕ → ℕ → Taking
+taking before after faults_before faults_after = record { before = before; after = after; faults_before = faults_before; faults_after = faults_after }
 
 -- the sink took all of the text, a front of it, or nothing
 abbrev pub TookAll : Taking → List ℕ → Type 0

@@ -7,7 +7,7 @@ mod top_call;
 mod words;
 mod writing;
 
-pub use top_call::{Report, cython_main};
+pub use top_call::{Report, cython_main, tell_no_memory};
 
 #[cfg(test)]
 mod tests;

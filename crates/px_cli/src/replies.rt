@@ -1,6 +1,6 @@
 ghost use Rattle.std.specs.Prelude.{◌≡◌, ◌++◌, ◌∷◌, [], ℕ, List, IfOk, map, string_bytes};
 ghost use Rattle.px_base.specs.Lines.{refusal_text};
-ghost use Rattle.px_cli.specs.Answer.{IsAnswer, no_file_line, with_line_end};
+ghost use Rattle.px_cli.specs.Answer.{IsAnswer, facts_of, no_file_line, with_line_end};
 ghost use Rattle.px_cli.specs.ModuleAnswer.{IsModuleAnswer};
 ghost use Rattle.px_cli.specs.Words.{RunsFile};
 
@@ -35,7 +35,8 @@ pub fn reply_to<L: Library>(
     words: &[String],
     library: &mut L,
 ) -> Result<Reply, NoMemory>
-    ensures { IfOk result (λ reply. IsAnswer (record { words = map string_bytes words.now; map = L.holds library.old; faults_before = L.faults library.old; faults_after = L.faults library.new }) reply.status reply.output reply.line) }
+    ensures { IfOk result (λ reply. IsAnswer
+        (facts_of (map string_bytes words.now) (L.holds library.old) (L.faults library.old) (L.faults library.new)) reply.status reply.output reply.line) }
 {
     match file_to_run(words) {
         Some(file) => reply_for_file(alloc, file, library),
@@ -44,7 +45,8 @@ pub fn reply_to<L: Library>(
 }
 
 fn reply_for_file<L: Library>(alloc: Global, file: &str, library: &mut L) -> Result<Reply, NoMemory>
-    ensures { IfOk result (λ reply. (words : List (List ℕ)) → RunsFile words file.now → IsAnswer (record { words = words; map = L.holds library.old; faults_before = L.faults library.old; faults_after = L.faults library.new }) reply.status reply.output reply.line) }
+    ensures { IfOk result (λ reply. (words : List (List ℕ)) → RunsFile words file.now → IsAnswer
+        (facts_of words (L.holds library.old) (L.faults library.old) (L.faults library.new)) reply.status reply.output reply.line) }
 {
     match library.module(alloc, file) {
         Ok(Some(text)) => reply_for_module(alloc, file, text.as_slice()),

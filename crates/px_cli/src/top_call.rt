@@ -1,6 +1,6 @@
 ghost use Rattle.std.specs.Prelude.{◌≡◌, map, string_bytes};
 ghost use Rattle.px_base.specs.Outside.{Grows};
-ghost use Rattle.px_cli.specs.Answer.{Facts, IsAnswer, IsCalm, IsReport, Taking, TookAll, no_memory_line};
+ghost use Rattle.px_cli.specs.Answer.{Facts, IsAnswer, IsCalm, IsReport, Taking, TookAll, facts_of, no_memory_line, taking};
 
 use crate::replies::{Reply, reply_to};
 use crate::writing::{Wrote, write_whole};
@@ -13,7 +13,10 @@ pub struct Report {
     pub status: Status,
 }
 
-/// Runs a command line.
+/// Runs a command line: `run FILE` reads the module FILE from the library, runs it and writes what it prints on `out`.
+///
+/// The output is kept and written at the end, then a line on `err` for each status but 0 and 6. After a write that fails
+/// nothing more is written, and the status is that of a broken sink. Neither the input nor the gate is used.
 pub fn cython_main<L: Library, I: Source, O: Sink, E: Sink, G: Gate>(
     alloc: Global,
     words: &[String],
@@ -24,9 +27,11 @@ pub fn cython_main<L: Library, I: Source, O: Sink, E: Sink, G: Gate>(
     _gate: &G,
 ) -> Report
     ensures unread { (I.left _input.new ≡ I.left _input.old) × (I.faults _input.new ≡ I.faults _input.old) }
-    ensures answer { IsReport (
-        record { words = map string_bytes words.now; map = L.holds library.old; faults_before = L.faults library.old; faults_after = L.faults library.new }) result.status
-        (record { before = O.taken out.old; after = O.taken out.new; faults_before = O.faults out.old; faults_after = O.faults out.new }) (record { before = E.taken err.old; after = E.taken err.new; faults_before = E.faults err.old; faults_after = E.faults err.new }) }
+    ensures answer { IsReport
+        (facts_of (map string_bytes words.now) (L.holds library.old) (L.faults library.old) (L.faults library.new))
+        result.status
+        (taking (O.taken out.old) (O.taken out.new) (O.faults out.old) (O.faults out.new))
+        (taking (E.taken err.old) (E.taken err.new) (E.faults err.old) (E.faults err.new)) }
 {
     let status = match reply_to(alloc, words, library) {
         Ok(reply) => deliver(&reply, out, err),
@@ -38,8 +43,8 @@ pub fn cython_main<L: Library, I: Source, O: Sink, E: Sink, G: Gate>(
 /// Writes a reply, the output first; after a write that fails only the line of want of memory is tried.
 fn deliver<O: Sink, E: Sink>(reply: &Reply, out: &mut O, err: &mut E) -> Status
     ensures { (facts : Facts) → IsAnswer facts reply.now.status reply.now.output reply.now.line → IsReport facts result
-        (record { before = O.taken out.old; after = O.taken out.new; faults_before = O.faults out.old; faults_after = O.faults out.new })
-        (record { before = E.taken err.old; after = E.taken err.new; faults_before = E.faults err.old; faults_after = E.faults err.new }) }
+        (taking (O.taken out.old) (O.taken out.new) (O.faults out.old) (O.faults out.new))
+        (taking (E.taken err.old) (E.taken err.new) (E.faults err.old) (E.faults err.new)) }
 {
     match write_whole(out, reply.output.as_slice()) {
         Wrote::All => write_line(reply, err),
@@ -50,8 +55,9 @@ fn deliver<O: Sink, E: Sink>(reply: &Reply, out: &mut O, err: &mut E) -> Status
 
 /// Writes the line of a reply whose output is written.
 fn write_line<E: Sink>(reply: &Reply, err: &mut E) -> Status
-    ensures { (facts : Facts) (out : Taking) → IsAnswer facts reply.now.status reply.now.output reply.now.line → TookAll out reply.now.output → IsCalm out → IsReport facts result out
-        (record { before = E.taken err.old; after = E.taken err.new; faults_before = E.faults err.old; faults_after = E.faults err.new }) }
+    ensures { (facts : Facts) (out : Taking) → IsAnswer facts reply.now.status reply.now.output reply.now.line →
+        TookAll out reply.now.output → IsCalm out → IsReport facts result out
+        (taking (E.taken err.old) (E.taken err.new) (E.faults err.old) (E.faults err.new)) }
 {
     match write_whole(err, reply.line.as_slice()) {
         Wrote::All => reply.status,

@@ -104,26 +104,13 @@ shift_by : (t : CType) (counts : Bool) (n : ℤ) → IsInRange t n → IfOk (if 
 shift_by t true n h = h
 shift_by t false n h = tt
 
--- a value of the type may stand on the right of each operator
-pub operand_in_range : (op : BinOp) (t : CType) (b : ℤ) → IsInRange t b → IsOperand op t b
-operand_in_range Add t b h = h
-operand_in_range Sub t b h = h
-operand_in_range Mul t b h = h
-operand_in_range FloorDiv t b h = h
-operand_in_range Mod t b h = h
-operand_in_range Shl t b h = tt
-operand_in_range Shr t b h = tt
-operand_in_range BitAnd t b h = h
-operand_in_range BitOr t b h = h
-operand_in_range BitXor t b h = h
-
 -- the result of a binary operator is a value of the type
 pub binary_in_range : (op : BinOp) (t : CType) (a b : ℤ) (cdivision : Bool) → IsInRange t a → IsOperand op t b → IfOk (binary_value op t a b cdivision) (λ n. IsInRange t n)
 binary_in_range Add t a b cdivision h k = wrap-in_range t (a +ℤ b)
 binary_in_range Sub t a b cdivision h k = wrap-in_range t (a -ℤ b)
 binary_in_range Mul t a b cdivision h k = wrap-in_range t (a *ℤ b)
-binary_in_range FloorDiv t a b cdivision h k = quotient_by t a b (is_zero b) cdivision (int_lt (greatest t) (floor_div a b)) refl refl h k
-binary_in_range Mod t a b cdivision h k = remainder_by t a b (is_zero b) cdivision refl h k
+binary_in_range FloorDiv t a b cdivision h k = quotient_by t a b (is_zero b) cdivision (int_lt (greatest t) (floor_div a b)) refl refl h (k refl)
+binary_in_range Mod t a b cdivision h k = remainder_by t a b (is_zero b) cdivision refl h (k refl)
 binary_in_range Shl t a b cdivision h k = shift_by t (is_count t b) (wrap t (a *ℤ pos (2 ^ unsigned_abs b))) (wrap-in_range t (a *ℤ pos (2 ^ unsigned_abs b)))
 binary_in_range Shr t a b cdivision h k = shift_by t (is_count t b) (floor_div a (pos (2 ^ unsigned_abs b))) (shifted_in_range t a (2 ^ unsigned_abs b) (pow_pos (unsigned_abs b)) h)
 binary_in_range BitAnd t a b cdivision h k = wrap-in_range t (pos (bit_and (word_of t a) (word_of t b)))

@@ -1,6 +1,6 @@
 -- The operators on values of one C integer type (ISO C11 6.5.3.3 and 6.5.5 to 6.5.12). Each result is that of whole numbers,
 -- wrapped, or a fault.
-use Rattle.std.specs.Prelude.{◌≡◌, ◌≢◌, ℕ, ◌-◌, ◌^◌, ℤ, pos, neg_ℤ, ◌+ℤ◌, ◌-ℤ◌, ◌*ℤ◌, ◌<ℤ◌, ◌≤ℤ◌, Bool, not, ◌&&◌, ◌==◌, if◌then◌else◌, int_lt, int_le, unsigned_abs, bit_and, bit_or, bit_xor, Result, Ok, Err}
+use Rattle.std.specs.Prelude.{◌≡◌, ◌≢◌, ℕ, ◌-◌, ◌^◌, ℤ, pos, neg_ℤ, ◌+ℤ◌, ◌-ℤ◌, ◌*ℤ◌, ◌<ℤ◌, ◌≤ℤ◌, Bool, true, false, not, ◌&&◌, ◌==◌, if◌then◌else◌, int_lt, int_le, unsigned_abs, bit_and, bit_or, bit_xor, Result, Ok, Err}
 use Rattle.std.specs.Int.{int_rem_euclid}
 use Rattle.px_base.specs.declared.c_types.CType.{CType}
 use Rattle.px_base.specs.declared.c_types.BinOp.{BinOp}
@@ -55,18 +55,21 @@ word_of t n = unsigned_abs (int_rem_euclid n (pos (2 ^ bits t)))
 abbrev pub bitwise_value : CType → (ℕ → ℕ → ℕ) → ℤ → ℤ → ℤ
 bitwise_value t combined a b = wrap t (pos (combined (word_of t a) (word_of t b)))
 
+abbrev pub is_shift : BinOp → Bool
+is_shift Add = false
+is_shift Sub = false
+is_shift Mul = false
+is_shift FloorDiv = false
+is_shift Mod = false
+is_shift Shl = true
+is_shift Shr = true
+is_shift BitAnd = false
+is_shift BitOr = false
+is_shift BitXor = false
+
 -- what may stand on the right of an operator: a value of the type, and any number as the count of a shift
 abbrev pub IsOperand : BinOp → CType → ℤ → Type 0
-IsOperand Add t b = IsInRange t b
-IsOperand Sub t b = IsInRange t b
-IsOperand Mul t b = IsInRange t b
-IsOperand FloorDiv t b = IsInRange t b
-IsOperand Mod t b = IsInRange t b
-IsOperand Shl t b = Unit {0}
-IsOperand Shr t b = Unit {0}
-IsOperand BitAnd t b = IsInRange t b
-IsOperand BitOr t b = IsInRange t b
-IsOperand BitXor t b = IsInRange t b
+IsOperand op t b = is_shift op ≡ false → IsInRange t b
 
 -- the result of an operator on values of the type, or its fault
 abbrev pub binary_value : BinOp → CType → ℤ → ℤ → Bool → Result ℤ Fault

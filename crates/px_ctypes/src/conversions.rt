@@ -69,7 +69,8 @@ fn unsigned_of(t: CType) -> CType
 /// The number as a value of the type: wrapped, and for `bint` 0 for 0 and 1 otherwise.
 pub fn convert(t: CType, n: i128) -> i128
     ensures value { result ≡ converted t n }
-    ensures in_range { IsValueOf t result }
+    ensures in_range { IsInRange t result }
+    ensures own { IsValueOf t result }
 {
     match t {
         CType::Bint => { if n == 0 { 0 } else { 1 } }

@@ -1,8 +1,8 @@
 //! The program `pyxrun`: the words of its command line, over the files and the standard streams.
 #![tactic(auto)]
 
-use px_base::{FolderLibrary, InputSource, NoMemory, OpenGate, OutputSink, Sink, Status};
-use px_cli::cython_main;
+use px_base::{FolderLibrary, InputSource, NoMemory, OpenGate, OutputSink, Status};
+use px_cli::{cython_main, tell_no_memory};
 use std::env;
 use std::io::ErrorKind;
 use std::process::ExitCode;
@@ -30,10 +30,7 @@ fn run(rt: &HostRuntime) -> Status {
             );
             report.status
         }
-        Err(NoMemory) => {
-            let _ = err.write(b"out of memory\n");
-            Status::NoMemory
-        }
+        Err(NoMemory) => tell_no_memory(&mut err),
     }
 }
 
