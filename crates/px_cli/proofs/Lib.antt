@@ -1,5 +1,6 @@
 mod ReplyLemmas
 mod RunLemmas
+mod StepwiseLemmas
 mod TopCallLemmas
 mod WordLemmas
 mod WritingLemmas

@@ -32,9 +32,17 @@ pub is_long : (n r : ℤ) → r ≡ wrap Long n → IsInRange Long r
 is_long n r e = rw e (wrap-in_range Long n)
 
 -- one factor more
-factor_more : (values : Values) (product next : ℤ) (a : FirstAtom) (others : List FirstAtom) → next ≡ wrap Long (product *ℤ atom_value values a) →
+pub factor_more : (values : Values) (product next : ℤ) (a : FirstAtom) (others : List FirstAtom) → next ≡ wrap Long (product *ℤ atom_value values a) →
     wrap Long (next *ℤ product_value values others) ≡ wrap Long (product *ℤ product_value values (a ∷ others))
 factor_more values product next a others e = rw e (wrap-mul_left Long (product *ℤ atom_value values a) (product_value values others) ∙ ap (wrap Long) (*ℤ-assoc product (atom_value values a) (product_value values others)))
+
+-- no factor is left
+pub factors_done : (product : ℤ) → IsInRange Long product → wrap Long (product *ℤ pos 1) ≡ product
+factors_done product long = ap (wrap Long) (times_one product) ∙ wrap_of_in_range Long product long
+
+-- no product is left
+pub sum_done : (sum : ℤ) → IsInRange Long sum → wrap Long (sum +ℤ pos 0) ≡ sum
+sum_done sum long = sym (ap (wrap Long) (plus_zero sum)) ∙ wrap_of_in_range Long sum long
 
 -- what is left of a product, times the factors so far
 abbrev pub IsProductOf : Values → List FirstAtom → ℕ → ℤ → Type 0
@@ -49,14 +57,14 @@ factor_step values factors i d product value next within is e before =
 pub factor_end : (values : Values) (factors : List FirstAtom) (i : ℕ) (product : ℤ) → length factors ≤ i → IsInRange Long product → IsProductOf values factors i product →
     product ≡ wrap Long (product_value values factors)
 factor_end values factors i product past long before =
-    sym (wrap_of_in_range Long product long) ∙ ap (wrap Long) (sym (times_one product))
+    sym (factors_done product long)
     ∙ sym (ap (λ rest. wrap Long (product *ℤ product_value values rest)) (drop_all i factors past)) ∙ before
 
 -- What is left of a sum, behind the sum so far.
 abbrev pub IsSumOf : Values → List FirstTerm → ℕ → ℤ → Type 0
 IsSumOf values terms i sum = wrap Long (sum +ℤ sum_value values (drop i terms)) ≡ wrap Long (sum_value values terms)
 
-term_more : (minus : Bool) (sum value product rest next : ℤ) → value ≡ wrap Long product → next ≡ wrap Long (signed_sum minus sum value) →
+pub term_more : (minus : Bool) (sum value product rest next : ℤ) → value ≡ wrap Long product → next ≡ wrap Long (signed_sum minus sum value) →
     wrap Long (next +ℤ rest) ≡ wrap Long (sum +ℤ (signed_value minus product +ℤ rest))
 term_more true sum value product rest next is e =
     ap (λ n. wrap Long (n +ℤ rest)) (e ∙ ap (λ n. wrap Long (sum -ℤ n)) is ∙ wrap-sub_right Long sum product) ∙ wrap-add_left Long (sum -ℤ product) rest ∙ ap (wrap Long) (omega (arith, ints))
@@ -73,17 +81,17 @@ term_step values terms i t factors sum value next within read inside is e before
 pub sum_end : (values : Values) (terms : List FirstTerm) (i : ℕ) (sum : ℤ) → length terms ≤ i → IsInRange Long sum → IsSumOf values terms i sum →
     sum ≡ wrap Long (sum_value values terms)
 sum_end values terms i sum past long before =
-    sym (wrap_of_in_range Long sum long) ∙ ap (wrap Long) (plus_zero sum)
+    sym (sum_done sum long)
     ∙ sym (ap (λ rest. wrap Long (sum +ℤ sum_value values rest)) (drop_all i terms past)) ∙ before
 
 -- Sums and statements see no more of the values than those of the letters.
 abbrev pub Agree : Values → Values → Type 0
 Agree v w = (x : ℕ) → IsLetter x → v x ≡ w x
 
-all_tail : {A : Type 0} (P : A → Type 0) (x : A) (xs : List A) → All P (x ∷ xs) → All P xs
+pub all_tail : {A : Type 0} (P : A → Type 0) (x : A) (xs : List A) → All P (x ∷ xs) → All P xs
 all_tail P x xs h k d within = h (suc k) d (omega arith)
 
-all_head : {A : Type 0} (P : A → Type 0) (x : A) (xs : List A) → All P (x ∷ xs) → P x
+pub all_head : {A : Type 0} (P : A → Type 0) (x : A) (xs : List A) → All P (x ∷ xs) → P x
 all_head P x xs h = h 0 x (omega arith)
 
 same_atom : (v w : Values) → Agree v w → (a : FirstAtom) → IsAtom a → atom_value v a ≡ atom_value w a
