@@ -1,16 +1,18 @@
 -- The laws of `wrap`: it gives the one number of the range that is congruent, and respects + - *.
-use Rattle.std.proofs.Common.{◌≡◌, ℕ, ◌<◌, ◌≤◌, ◌^◌, ◌-◌, ◌+◌, ◌*◌, ◌/◌, ◌%◌, suc, ℤ, pos, negsuc, neg_ℤ, ◌+ℤ◌, ◌-ℤ◌, ◌*ℤ◌, ◌≤ℤ◌, ◌<ℤ◌, refl, sym, ◌∙◌, ap, subst, arith, ⊎_elim, bit_and, FitsSigned, unsigned_abs}
+use Rattle.std.proofs.Common.{◌≡◌, ℕ, ◌<◌, ◌≤◌, ◌^◌, ◌-◌, ◌+◌, ◌*◌, ◌/◌, ◌%◌, suc, ℤ, pos, negsuc, neg_ℤ, ◌+ℤ◌, ◌-ℤ◌, ◌*ℤ◌, ◌≤ℤ◌, ◌<ℤ◌, refl, sym, ◌∙◌, ap, subst, arith, ◌⊎◌, inl, inr, ⊎_elim, bit_and, bit_xor, FitsSigned, unsigned_abs, Bool, true, false, if◌then◌else◌}
 use Rattle.std.specs.Int.{int_rem_euclid, w128, cast_signed, cast_unsigned}
 use Rattle.std.proofs.lemmas.Int.{ints, int_rem_euclid_is, to_z_pos}
-use Rattle.std.proofs.lemmas.Nat.{pow_pos, div-add-mod', mod_below, and_mask, pow-add, pow_below}
+use Rattle.std.proofs.lemmas.Nat.{pow_pos, div-add-mod', mod_below, and_mask, xor_block, pow-add, pow_below}
 use Rattle.std.proofs.Math.Nat.{suc-mul, mul-le-mul_right, mod-eq_of_lt}
-use Rattle.std.proofs.lemmas.Bool.{cases_order}
+use Rattle.std.proofs.lemmas.Bool.{cases_lt, cases_order}
+use Rattle.std.proofs.lemmas.Grind.{common_steps}
 use lib.IntN.{+ℤ_comm, *ℤ_comm}
 use borrow.Author.Differences.{up, down}
 use Rattle.px_base.specs.declared.c_types.CType.{CType}
 use Rattle.px_base.specs.declared.c_types.CType.TheVariants.{SChar, UChar, Char, Short, UShort, Int, UInt, Long, ULong, LongLong, ULongLong, SsizeT, SizeT, Bint}
 use Rattle.px_ctypes.proofs.Products.{*ℤ-distrib, neg-*ℤ, *ℤ-swap, *ℤ-assoc}
-use Rattle.px_ctypes.specs.Types.{bits, least, greatest, IsInRange}
+use Rattle.px_ctypes.proofs.TypeLaws.{on_all}
+use Rattle.px_ctypes.specs.Types.{bits, is_signed, least, greatest, IsInRange}
 use Rattle.px_ctypes.specs.Operators.{word_of, bitwise_value}
 use Rattle.px_ctypes.specs.Wrapping.{IsCongruent, IsWrapped, wrap}
 
@@ -94,8 +96,8 @@ low_bits (negsuc a) k h f =
     let rest : int_rem_euclid (negsuc a) (pos (2 ^ k)) ≡ pos (word % 2 ^ k) = int_rem_euclid_is (negsuc a) (pos (2 ^ k)) (2 ^ k) (2 ^ (128 - k)) word (pow_pos k) refl (omega (arith, ints, whole, f.sfits)) in
     ap (cast_signed w128) (ap (λ w. bit_and w (2 ^ k - 1)) same ∙ and_mask word k) ∙ to_z_pos w128 (word % 2 ^ k) (omega (arith, below, pow_at_most k 127 (omega arith))) ∙ sym rest
 
-pub masked : (t : CType) (n mask : ℤ) → FitsSigned w128 n → mask ≡ pos (2 ^ bits t - 1) → cast_signed w128 (bit_and (cast_unsigned w128 n) (cast_unsigned w128 mask)) ≡ int_rem_euclid n (pos (2 ^ bits t))
-masked t n mask f e = ap (λ m. cast_signed w128 (bit_and (cast_unsigned w128 n) (cast_unsigned w128 m))) e ∙ low_bits n (bits t) (omega (arith, bits_at_most t)) f
+pub low_word_is : (n : ℤ) → FitsSigned w128 n → cast_signed w128 (bit_and (cast_unsigned w128 n) (2 ^ 64 - 1)) ≡ int_rem_euclid n (pos (2 ^ 64))
+low_word_is n f = low_bits n 64 (omega arith) f
 
 -- ---- exactly one number
 
@@ -131,17 +133,17 @@ wrapped_from t n r e = subst (λ x. IsWrapped t n x) (sym e) (wrap_wraps t n)
 pub wrap_from : (t : CType) (n r : ℤ) → IsWrapped t n r → r ≡ wrap t n
 wrap_from t n r w = wrapped_once t n r (wrap t n) w (wrap_wraps t n)
 
--- what the code computes: the remainder where it is in range, and else the number 2 ^ width below it
-pub wrap_low : (t : CType) (n low top : ℤ) → low ≡ int_rem_euclid n (pos (2 ^ bits t)) → top ≡ greatest t → low ≤ℤ top → low ≡ wrap t n
-wrap_low t n low top e g h =
+-- the remainder where it is in range, and else the number 2 ^ width below it
+wrap_low : (t : CType) (n low : ℤ) → low ≡ int_rem_euclid n (pos (2 ^ bits t)) → low ≤ℤ greatest t → low ≡ wrap t n
+wrap_low t n low e h =
     let m = 2 ^ bits t in
     let bounds = residue_bounds n m (pow_pos (bits t)) in
     let same = residue_same n m (pow_pos (bits t)) in
     let zero = zero_in_range t in
     wrap_from t n low (record { in_range = (omega (arith, ints), omega (arith, ints)); same = (same.0, omega (arith, ints, same.1)) })
 
-pub wrap_high : (t : CType) (n low top m : ℤ) → low ≡ int_rem_euclid n (pos (2 ^ bits t)) → top ≡ greatest t → top <ℤ low → m ≡ pos (2 ^ bits t) → low -ℤ m ≡ wrap t n
-wrap_high t n low top m e g h k =
+wrap_high : (t : CType) (n low : ℤ) → low ≡ int_rem_euclid n (pos (2 ^ bits t)) → greatest t <ℤ low → low -ℤ pos (2 ^ bits t) ≡ wrap t n
+wrap_high t n low e h =
     let some = pow_pos (bits t) in
     let bounds = residue_bounds n (2 ^ bits t) some in
     let same = residue_same n (2 ^ bits t) some in
@@ -305,3 +307,57 @@ wrap-invert t a =
 
 pub wrap-shifted : (t : CType) (a : ℤ) (low count : ℕ) → pos low ≡ int_rem_euclid a (pos (2 ^ 64)) → count < 64 → wrap t (pos ((low * 2 ^ count) % 2 ^ 64)) ≡ wrap t (a *ℤ pos (2 ^ count))
 wrap-shifted t a low count e h = wrap-product t a (pos (2 ^ count)) low (2 ^ count) e (ap pos (sym (mod-eq_of_lt (pow_below count 64 h))))
+
+-- ---- the sign bit
+
+xor_zero : (a : ℕ) → bit_xor a 0 ≡ a
+xor_zero a = grind (arith, common_steps)
+
+-- to turn the bit of 2 ^ k adds it to a number below it, and takes it from the numbers up to 2 ^ (k + 1)
+turned_on : (k low : ℕ) → low < 2 ^ k → bit_xor low (2 ^ k) ≡ low + 2 ^ k
+turned_on k low h =
+    let bit : 1 * 2 ^ k + 0 ≡ 2 ^ k = omega arith in
+    let word : 0 * 2 ^ k + low ≡ low = omega arith in
+    (λ i. bit_xor (sym word i) (sym bit i)) ∙ xor_block k 0 1 low 0 h (pow_pos k) ∙ omega (arith, xor_zero low)
+
+turned_off : (k low : ℕ) → low < 2 ^ k → bit_xor (2 ^ k + low) (2 ^ k) ≡ low
+turned_off k low h =
+    let bit : 1 * 2 ^ k + 0 ≡ 2 ^ k = omega arith in
+    let word : 1 * 2 ^ k + low ≡ 2 ^ k + low = omega arith in
+    (λ i. bit_xor (sym word i) (sym bit i)) ∙ xor_block k 1 1 low 0 h (pow_pos k) ∙ omega (arith, xor_zero low)
+
+halves : (t : CType) → 2 ^ bits t ≡ 2 ^ (bits t - 1) + 2 ^ (bits t - 1)
+halves = on_all (λ t. 2 ^ bits t ≡ 2 ^ (bits t - 1) + 2 ^ (bits t - 1)) refl refl refl refl refl refl refl refl refl refl refl refl refl refl
+
+sign_by : (signed : Bool) (half sign : ℕ) → neg_ℤ (pos sign) ≡ (if signed then neg_ℤ (pos half) else pos 0) → (sign ≡ 0) ⊎ (sign ≡ half)
+sign_by true half sign e = inr (omega (arith, ints))
+sign_by false half sign e = inl (omega (arith, ints))
+
+-- a remainder whose sign bit is turned, less that bit, is the number that it represents
+extended : (t : CType) (n : ℤ) (low sign : ℕ) → pos low ≡ int_rem_euclid n (pos (2 ^ bits t)) → neg_ℤ (pos sign) ≡ least t → pos (bit_xor low sign) -ℤ pos sign ≡ wrap t n
+extended t n low sign e f =
+    let half = 2 ^ (bits t - 1) in
+    let bounds = residue_bounds n (2 ^ bits t) (pow_pos (bits t)) in
+    ⊎_elim
+    (λ (z : sign ≡ 0).
+    let same : bit_xor low sign ≡ low = ap (bit_xor low) z ∙ xor_zero low in
+    omega (arith, ints, same) ∙ wrap_low t n (pos low) e (omega (arith, ints, bounds.1, greatest_is t)))
+    (λ (h : sign ≡ half). ⊎_elim
+    (λ (l : low < half).
+    let on : bit_xor low sign ≡ low + sign = ap (bit_xor low) h ∙ turned_on (bits t - 1) low l ∙ omega arith in
+    omega (arith, ints, on) ∙ wrap_low t n (pos low) e (omega (arith, ints, halves t, greatest_is t)))
+    (λ (g : half ≤ low).
+    let rest = low - half in
+    let word : half + rest ≡ low = omega arith in
+    let off : bit_xor low sign ≡ rest = (λ i. bit_xor (sym word i) (h i)) ∙ turned_off (bits t - 1) rest (omega (arith, ints, halves t, bounds.1)) in
+    omega (arith, ints, off, halves t) ∙ wrap_high t n (pos low) e (omega (arith, ints, halves t, greatest_is t)))
+    (cases_lt low half))
+    (sign_by (is_signed t) half sign f)
+
+-- what the code computes: from the low word those bits of the width, and their sign extended
+pub wrap_extended : (t : CType) (n : ℤ) (word mask sign : ℕ) → pos word ≡ int_rem_euclid n (pos (2 ^ 64)) → mask ≡ 2 ^ bits t - 1 → neg_ℤ (pos sign) ≡ least t → pos (bit_xor (bit_and word mask) sign) -ℤ pos sign ≡ wrap t n
+wrap_extended t n word mask sign e f g =
+    let m = 2 ^ bits t in
+    let masked : bit_and word mask ≡ word % m = ap (bit_and word) f ∙ and_mask word (bits t) in
+    let own : pos (word_of t n) ≡ int_rem_euclid n (pos m) = abs_is (int_rem_euclid n (pos m)) (residue_bounds n m (pow_pos (bits t))).0 in
+    extended t n (bit_and word mask) sign (ap pos (masked ∙ word_of_low t n word e) ∙ own) g

@@ -1,4 +1,4 @@
-ghost use Rattle.std.specs.Prelude.{◌≡◌, ◌^◌, ◌-◌, ◌/◌, pos};
+ghost use Rattle.std.specs.Prelude.{◌≡◌, ◌^◌, ◌-◌, ◌/◌, neg_ℤ, pos};
 ghost use Rattle.px_ctypes.specs.Types.{bits, greatest, is_signed, least, rank};
 
 use px_base::CType;
@@ -55,15 +55,32 @@ pub(crate) fn rank(t: CType) -> u8
     }
 }
 
-/// The least value of a type.
-pub(crate) fn least(t: CType) -> i128
-    ensures { result ≡ least t }
+/// A word of all the type's bits: 2^width - 1.
+pub(crate) fn mask(t: CType) -> u64
+    ensures { result ≡ 2 ^ bits t - 1 }
 {
     match t {
-        CType::SChar | CType::Char => -0x80,
-        CType::Short => -0x8000,
-        CType::Int | CType::Bint => -0x8000_0000,
-        CType::Long | CType::LongLong | CType::SsizeT => -0x8000_0000_0000_0000,
+        CType::SChar | CType::UChar | CType::Char => 0xff,
+        CType::Short | CType::UShort => 0xffff,
+        CType::Int | CType::UInt | CType::Bint => 0xffff_ffff,
+        CType::Long
+        | CType::ULong
+        | CType::LongLong
+        | CType::ULongLong
+        | CType::SsizeT
+        | CType::SizeT => 0xffff_ffff_ffff_ffff,
+    }
+}
+
+/// The sign bit of a signed type: 2^(width - 1), which is as far as the least value lies below 0. An unsigned type has 0.
+pub(crate) fn sign_bit(t: CType) -> u64
+    ensures { neg_ℤ (pos result) ≡ least t }
+{
+    match t {
+        CType::SChar | CType::Char => 0x80,
+        CType::Short => 0x8000,
+        CType::Int | CType::Bint => 0x8000_0000,
+        CType::Long | CType::LongLong | CType::SsizeT => 0x8000_0000_0000_0000,
         CType::UChar
         | CType::UShort
         | CType::UInt
@@ -73,43 +90,20 @@ pub(crate) fn least(t: CType) -> i128
     }
 }
 
+// The range is computed from these words, since LLVM makes a table of a `match` of words, but indirect jumps of one of
+// 128-bit numbers.
+
+/// The least value of a type.
+pub(crate) fn least(t: CType) -> i128
+    ensures { result ≡ least t }
+{
+    -(sign_bit(t) as i128)
+}
+
 /// The greatest value of a type.
+#[tactic(auto, using(crate::proofs::WrapLaws::greatest_is, crate::proofs::WrapLaws::modulus_fits))]
 pub(crate) fn greatest(t: CType) -> i128
     ensures { result ≡ greatest t }
 {
-    match t {
-        CType::SChar | CType::Char => 0x7f,
-        CType::UChar => 0xff,
-        CType::Short => 0x7fff,
-        CType::UShort => 0xffff,
-        CType::Int | CType::Bint => 0x7fff_ffff,
-        CType::UInt => 0xffff_ffff,
-        CType::Long | CType::LongLong | CType::SsizeT => 0x7fff_ffff_ffff_ffff,
-        CType::ULong | CType::ULongLong | CType::SizeT => 0xffff_ffff_ffff_ffff,
-    }
-}
-
-/// How many numbers a type of this width has: 2^width.
-pub(crate) fn modulus(t: CType) -> i128
-    ensures { result ≡ pos (2 ^ bits t) }
-{
-    match t {
-        CType::SChar | CType::UChar | CType::Char => 0x100,
-        CType::Short | CType::UShort => 0x1_0000,
-        CType::Int | CType::UInt | CType::Bint => 0x1_0000_0000,
-        CType::Long
-        | CType::ULong
-        | CType::LongLong
-        | CType::ULongLong
-        | CType::SsizeT
-        | CType::SizeT => 0x1_0000_0000_0000_0000,
-    }
-}
-
-/// A word of all the type's bits.
-#[tactic(auto, using(crate::proofs::WrapLaws::modulus_fits))]
-pub(crate) fn mask(t: CType) -> i128
-    ensures { result ≡ pos (2 ^ bits t - 1) }
-{
-    modulus(t) - 1
+    mask(t) as i128 - sign_bit(t) as i128
 }
