@@ -5,7 +5,7 @@ use Rattle.std.proofs.lemmas.List.{append_cancel_left}
 use Rattle.std.proofs.lemmas.List.Elements.{All-nil, All-head, All-tail, All-push}
 use Rattle.px_base.specs.declared.refusals.Trouble.{Trouble}
 use Rattle.px_base.specs.declared.refusals.Trouble.TheVariants.{Refused, NoMemory}
-use Rattle.px_parser.specs.Reading.{Reads, IsRead, IsUnreadable}
+use Rattle.px_parser.specs.Reading.{ReadsPart, IsRead, IsUnreadable}
 
 -- equal texts have the same byte at each place
 pub byte_at : (i : ℕ) {xs ys : List ℕ} → xs ≡ ys → get_or xs i 0 ≡ get_or ys i 0
@@ -95,6 +95,6 @@ pub unreadable_without : {T : Type 0} (Good : T → Type 0) (spell : T → List 
 unreadable_without Good spell Follows word text n = λ other tail g e q. n (spell other ++ tail) (q ∙ append_assoc word (spell other) tail)
 
 -- a reader fails as one that it calls fails
-pub fails_so : {T U : Type 0} (Good : T → Type 0) (spell : T → List ℕ) (Follows : List ℕ → Type 0) (text rest : List ℕ) (Good' : U → Type 0) (spell' : U → List ℕ) (Follows' : List ℕ → Type 0) (text' rest' : List ℕ) (e : Trouble) → (IsUnreadable Good spell Follows text → IsUnreadable Good' spell' Follows' text') → Reads Good spell Follows text rest (Err e) → Reads Good' spell' Follows' text' rest' (Err e)
+pub fails_so : {T U : Type 0} (Good : T → Type 0) (spell : T → List ℕ) (Follows : List ℕ → Type 0) (text rest : List ℕ) (Good' : U → Type 0) (spell' : U → List ℕ) (Follows' : List ℕ → Type 0) (text' rest' : List ℕ) (e : Trouble) → (IsUnreadable Good spell Follows text → IsUnreadable Good' spell' Follows' text') → ReadsPart Good spell Follows text rest (Err e) → ReadsPart Good' spell' Follows' text' rest' (Err e)
 fails_so Good spell Follows text rest Good' spell' Follows' text' rest' (Refused r) lift h = (h.0, lift h.1)
 fails_so Good spell Follows text rest Good' spell' Follows' text' rest' NoMemory lift h = tt

@@ -7,7 +7,7 @@ use Rattle.std.proofs.lemmas.Str.Parse.{digit_at, digit_from_value, digits_value
 use Rattle.std.proofs.lemmas.Int.Digits.{digits_value_more}
 use Rattle.std.proofs.lemmas.Fmt.{decimal_is_IsNumeral, decimal_injective, decimal-digits_value, decimal_digit, first_decimal}
 use Rattle.std.proofs.lemmas.Bool.Decides.{nat_tests}
-use Rattle.px_parser.specs.Reading.{IsDigit, FollowsNumber, FitsLong, IsNumberOf, HasLeadingZero, Reads}
+use Rattle.px_parser.specs.Reading.{IsDigit, FollowsNumber, FitsLong, IsNumberOf, HasLeadingZero, ReadsPart}
 use Rattle.px_parser.specs.FirstForm.{not_in_this_language}
 use Rattle.px_base.specs.declared.refusals.Trouble.TheVariants.{Refused}
 
@@ -96,7 +96,7 @@ no_leading_zero ds zero h f e = omega (arith, ap length e, ap length (decimal_di
 no_leading_zero ds (suc n) h f e = omega (arith, ap (λ (xs : List ℕ). get_or xs 0 0) e, first_decimal (suc n) (omega arith) (omega arith))
 
 -- What comes next is the number that the digits write.
-pub number_reads : (ds rest : List ℕ) (r : Option ℕ) → AllDigits 10 ds → FollowsNumber rest → IsNumberOf ds r → Reads FitsLong decimal FollowsNumber (ds ++ rest) rest (ok_or r (Refused not_in_this_language))
+pub number_reads : (ds rest : List ℕ) (r : Option ℕ) → AllDigits 10 ds → FollowsNumber rest → IsNumberOf ds r → ReadsPart FitsLong decimal FollowsNumber (ds ++ rest) rest (ok_or r (Refused not_in_this_language))
 number_reads ds rest (Some n) h k m = record {
   spelled = ap (λ (xs : List ℕ). xs ++ rest) m.1;
   formed = m.0;

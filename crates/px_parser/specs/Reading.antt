@@ -20,10 +20,10 @@ abbrev pub IsUnreadable : {T : Type 0} → (T → Type 0) → (T → List ℕ) �
 IsUnreadable {T} IsFormed spelling Follows text = (other : T) (tail : List ℕ) → IsFormed other → Follows tail → text ≡ spelling other ++ tail → ⊥
 
 -- what a reader answers that goes from the text to the rest; want of memory is free
-abbrev pub Reads : {T : Type 0} → (T → Type 0) → (T → List ℕ) → (List ℕ → Type 0) → List ℕ → List ℕ → Result T Trouble → Type 0
-Reads IsFormed spelling Follows text rest (Ok value) = IsRead IsFormed spelling Follows text rest value
-Reads IsFormed spelling Follows text rest (Err (Refused refusal)) = (refusal ≡ not_in_this_language) × IsUnreadable IsFormed spelling Follows text
-Reads IsFormed spelling Follows text rest (Err NoMemory) = Unit {0}
+abbrev pub ReadsPart : {T : Type 0} → (T → Type 0) → (T → List ℕ) → (List ℕ → Type 0) → List ℕ → List ℕ → Result T Trouble → Type 0
+ReadsPart IsFormed spelling Follows text rest (Ok value) = IsRead IsFormed spelling Follows text rest value
+ReadsPart IsFormed spelling Follows text rest (Err (Refused refusal)) = (refusal ≡ not_in_this_language) × IsUnreadable IsFormed spelling Follows text
+ReadsPart IsFormed spelling Follows text rest (Err NoMemory) = Unit {0}
 
 -- whether the text begins with the word, and the place behind it; the place stays where it doesn't
 abbrev pub Skips : List ℕ → List ℕ → Bool → List ℕ → Type 0
@@ -75,16 +75,16 @@ IsNumberOf digits (Some n) = FitsLong n × (digits ≡ decimal n)
 IsNumberOf digits None = (n : ℕ) → FitsLong n → digits ≡ decimal n → ⊥
 
 abbrev pub ReadsAtom : List ℕ → List ℕ → Result FirstAtom Trouble → Type 0
-ReadsAtom = Reads IsAtom atom_text FollowsNumber
+ReadsAtom = ReadsPart IsAtom atom_text FollowsNumber
 
 abbrev pub ReadsProduct : List ℕ → List ℕ → Result (List FirstAtom) Trouble → Type 0
-ReadsProduct = Reads IsProduct product_text FollowsProduct
+ReadsProduct = ReadsPart IsProduct product_text FollowsProduct
 
 abbrev pub ReadsSum : List ℕ → List ℕ → Result (List FirstTerm) Trouble → Type 0
-ReadsSum = Reads IsSum sum_text FollowsSum
+ReadsSum = ReadsPart IsSum sum_text FollowsSum
 
 abbrev pub ReadsStatement : List ℕ → List ℕ → Result FirstLine Trouble → Type 0
-ReadsStatement = Reads IsLine line_text FollowsLine
+ReadsStatement = ReadsPart IsLine line_text FollowsLine
 
 -- a statement with the four spaces before it and its line end
 abbrev pub whole_line : FirstLine → List ℕ
@@ -95,7 +95,7 @@ abbrev pub FollowsLines : List ℕ → Type 0
 FollowsLines tail = (tail ≡ codes "main()") ⊎ (tail ≡ codes "main()\n")
 
 abbrev pub ReadsLines : List ℕ → List ℕ → Result (List FirstLine) Trouble → Type 0
-ReadsLines = Reads (All IsLine) (flat_map whole_line) FollowsLines
+ReadsLines = ReadsPart (All IsLine) (flat_map whole_line) FollowsLines
 
 -- the sign that the text begins with, if there is one, and the place behind it; the place stays where there is none
 abbrev pub TakesSign : List ℕ → List ℕ → Option Bool → Type 0

@@ -3,7 +3,7 @@ ghost use Rattle.std.specs.Str.Parse.{AllDigits, digits_value};
 ghost use Rattle.std.specs.List.{prefix_len};
 ghost use Rattle.std.specs.Char.{is_ascii_digit};
 ghost use Rattle.px_parser.specs.FirstForm.{IsLetter};
-ghost use Rattle.px_parser.specs.Reading.{Reads, IsRead, IsUnreadable, Skips, Anything, FollowsNumber, IsDigit, FitsLong, IsNumberOf, HasLeadingZero};
+ghost use Rattle.px_parser.specs.Reading.{ReadsPart, IsRead, IsUnreadable, Skips, Anything, FollowsNumber, IsDigit, FitsLong, IsNumberOf, HasLeadingZero};
 
 use px_base::{Refusal, Trouble};
 use std::marker::Model;
@@ -90,7 +90,7 @@ impl<'a> Cursor<'a> {
     /// # Errors
     /// E27 where there is none.
     pub(crate) fn number(&mut self) -> Result<u64, Trouble>
-        ensures { Reads FitsLong decimal FollowsNumber self.old self.new result }
+        ensures { ReadsPart FitsLong decimal FollowsNumber self.old self.new result }
     {
         number_of(self.digits()).ok_or(NOT_IN_THIS_LANGUAGE)
     }
