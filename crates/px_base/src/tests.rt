@@ -283,3 +283,14 @@ fn adapters(rt: HostRuntime) {
     }
     OpenGate.at(0, Point::Begins);
 }
+
+#[test]
+fn sequences(rt: HostRuntime) -> Result<(), Fail> {
+    let mut some = Numbers::from_vec(vec![in rt.alloc(); 7, 8]?);
+    assert!(rt; !some.is_empty() && Numbers::new(rt.alloc()).is_empty());
+    some.push(9)?;
+    some.extend_from_slice(&[10, 11])?;
+    assert_eq!(rt; some.len(), 5);
+    assert_eq!(rt; some.into_vec().as_slice(), [7, 8, 9, 10, 11].as_slice());
+    Ok(())
+}
