@@ -1,0 +1,6 @@
+use Rattle.std.proofs.Common.{sym}
+use Rattle.px_lexer.proofs.CharacterLemmas.{starts_word-none}
+use Rattle.px_lexer.proofs.characters.Characters.starts_word.Goals as goal
+
+pub returns-in-None : goal.returns-in-None
+returns-in-None c = sym (starts_word-none c.args.self.now c.args.at c.in-None.ensures)

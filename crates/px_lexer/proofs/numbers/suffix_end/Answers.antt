@@ -1,0 +1,8 @@
+use Rattle.px_lexer.proofs.NumberPlaces.{suffix_place}
+use Rattle.px_lexer.proofs.numbers.suffix_end.Goals as goal
+
+pub returns-then-stands : goal.returns-then-stands
+returns-then-stands c = rw c.if-stands.true at (suffix_place c.args.cs.now c.args.from c.stands.result c.stands.ensures.value)
+
+pub returns-else-stands : goal.returns-else-stands
+returns-else-stands c = rw c.if-stands.false at (suffix_place c.args.cs.now c.args.from c.stands.result c.stands.ensures.value)

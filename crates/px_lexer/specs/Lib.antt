@@ -1,0 +1,17 @@
+pub mod Characters
+pub mod Laws
+pub mod Lines
+pub mod NumberSteps
+pub mod Numbers
+pub mod Pieces
+pub mod Places
+pub mod Reached
+pub mod Readers
+pub mod Refusals
+pub mod SignSteps
+pub mod Signs
+pub mod Spellings
+pub mod StringSteps
+pub mod Strings
+pub mod Tokens
+pub mod Words

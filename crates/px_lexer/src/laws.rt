@@ -1,0 +1,12 @@
+ghost use Rattle.px_lexer.specs.Laws.{TokensAreUnique, TokensAreThere, TokensOrRefusal};
+
+/// A text has at most one list of tokens, and one list of leading comment lines.
+pub fn tokens_are_unique()
+    ensures { TokensAreUnique }
+{}
+
+/// A text has tokens, or a first rule that it breaks, and tokens exactly where it breaks none.
+pub fn tokens_are_there()
+    ensures exact { TokensAreThere }
+    ensures first { TokensOrRefusal }
+{}
