@@ -23,3 +23,6 @@ mod words;
 
 pub use spelling::{Keyword, Operator};
 pub use token_list::{Comment, Comments, Token, TokenKind, TokenList, Tokens};
+
+#[cfg(test)]
+mod tests;
