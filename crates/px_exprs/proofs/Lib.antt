@@ -1,0 +1,11 @@
+pub mod Codes
+pub mod Tables
+pub mod Only
+pub mod Beginnings
+pub mod Keeping
+pub mod TypingLaws
+pub mod OperatorLaws
+pub mod ListLaws
+pub mod AtomLaws
+pub mod Uniqueness
+pub mod NameLaws

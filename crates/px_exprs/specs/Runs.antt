@@ -1,0 +1,64 @@
+-- How far an expression goes, and where it is refused.
+use Rattle.std.specs.Prelude.{◌≡◌, ℕ, suc, ◌<◌, ◌≤◌, List, ◌++◌, length, take}
+use Rattle.px_tree.specs.declared.expressions.Expr.{Expr}
+use Rattle.px_base.specs.declared.refusals.Refusal.{Refusal}
+use Rattle.px_lexer.specs.declared.spelling.Keyword.TheVariants as word
+use Rattle.px_exprs.specs.Terminals.{Terminal, Stands, IsKeyword}
+use Rattle.px_exprs.specs.Grammar.{IsExpr}
+
+-- the tokens from this index to their end are an expression with this tree and this nesting
+abbrev pub Derives : List Terminal → ℕ → Expr → ℕ → Type 0
+Derives ts from e depth = IsExpr ts from e depth (length ts)
+
+-- some expression begins with the tokens from this index to their end
+abbrev pub Begins : List Terminal → ℕ → Type 0
+Begins ts from = (more : List Terminal) × (e : Expr) × (depth : ℕ) × Derives (ts ++ more) from e depth
+
+-- the tokens from one index to before another are the longest with which some expression begins
+pub record IsRun (ts : List Terminal) (from to : ℕ) : Type 0 where
+  pub forward : from ≤ to
+  pub within : to ≤ length ts
+  pub begins : Begins (take to ts) from
+  pub longest : (k : ℕ) → to < k → k ≤ length ts → Begins (take k ts) from → ⊥
+
+-- the greatest nesting of an expression
+abbrev pub nesting_limit : ℕ
+nesting_limit = 64
+
+-- each expression that begins with the tokens up to this one, which stands in a run, is nested too deep; the word `sizeof` itself
+-- is no bracket and no operator, so that the place is that of the bracket behind it
+pub record IsTooDeep (ts : List Terminal) (from k : ℕ) : Type 0 where
+  pub to : ℕ
+  pub run : IsRun ts from to
+  pub inside : k < to
+  pub counted : IsKeyword ts k word.Sizeof → ⊥
+  pub deep : (more : List Terminal) (e : Expr) (depth : ℕ) → Derives (take (suc k) ts ++ more) from e depth → nesting_limit < depth
+
+-- E6: at the first token with which each expression is nested too deep
+pub record IsNestedTooDeep (ts : List Terminal) (from k : ℕ) : Type 0 where
+  pub deep : IsTooDeep ts from k
+  pub first : (i : ℕ) → i < k → IsTooDeep ts from i → ⊥
+
+-- E5: behind the run, where that is no expression and isn't nested too deep
+pub record IsNoExpression (ts : List Terminal) (from k : ℕ) : Type 0 where
+  pub run : IsRun ts from k
+  pub none : (e : Expr) (depth : ℕ) → IsExpr ts from e depth k → ⊥
+  pub shallow : (i : ℕ) → IsTooDeep ts from i → ⊥
+
+-- the run is this expression, and isn't nested too deep
+pub record IsRead (ts : List Terminal) (from : ℕ) (e : Expr) (to : ℕ) : Type 0 where
+  pub run : IsRun ts from to
+  pub depth : ℕ
+  pub derived : IsExpr ts from e depth to
+  pub shallow : depth ≤ nesting_limit
+
+-- the refusal with this number at the token with this index
+pub record IsRefusalAt (ts : List Terminal) (number k : ℕ) (refusal : Refusal) : Type 0 where
+  pub token : Terminal
+  pub stands : Stands ts k token
+  pub refused : refusal ≡ record { number = number; line = token.at.line; column = token.at.column }
+
+-- E5 or E6 at its token
+pub data IsExpressionRefused (ts : List Terminal) (from : ℕ) (refusal : Refusal) : Type 0 where
+  no_expression : (k : ℕ) → IsNoExpression ts from k → IsRefusalAt ts 5 k refusal → IsExpressionRefused ts from refusal
+  nested_too_deep : (k : ℕ) → IsNestedTooDeep ts from k → IsRefusalAt ts 6 k refusal → IsExpressionRefused ts from refusal

@@ -1,0 +1,11 @@
+ghost use Rattle.px_exprs.specs.Laws.{ExpressionsAreUnique, NamesAreExpressions};
+
+/// Tokens are one expression at most, with one tree and one nesting.
+pub fn expressions_are_unique()
+    ensures { ExpressionsAreUnique }
+{}
+
+/// Each identifier is an expression, whatever it means in a type or in the head of a function.
+pub fn names_are_expressions()
+    ensures { NamesAreExpressions }
+{}

@@ -1,0 +1,4 @@
+//! The grammar of expressions.
+#![tactic(auto)]
+
+pub mod laws;

@@ -1,0 +1,69 @@
+use crate::expressions::Expr;
+use crate::names::Names;
+use crate::typings::Type;
+use px_base::{BinOp, Chars, Span};
+use sqlite_items::Items;
+
+/// A statement (Python Language Reference, 7 and 8; Cython user guide, Language Basics).
+#[cycle(statement)]
+#[derive(Debug, Drop)]
+pub struct Stmt {
+    pub number: u32,
+    pub at: Span,
+    pub form: StmtForm,
+}
+
+#[cycle(statement)]
+#[derive(Debug, Drop)]
+pub enum StmtForm {
+    /// `targets = .. = value`, each list of targets in the order of the text; without targets an expression alone.
+    Assign(Items<Expr>, Expr),
+    /// `target op= value`
+    Augment(Expr, BinOp, Expr),
+    Pass,
+    Break,
+    Continue,
+    Return(Option<Expr>),
+    /// `raise Kind` or `raise Kind()`, or `raise Kind(text)`.
+    Raise(Chars, Option<Expr>),
+    Global(Names),
+    /// The arms of `if` and `elif`, one or more, and `else`.
+    If(Items<Arm>, Option<Items<Stmt>>),
+    While(Expr, Items<Stmt>),
+    /// `for target in value`
+    For(Expr, Expr, Items<Stmt>),
+    WithGil(Items<Stmt>),
+    WithNogil(Items<Stmt>),
+    /// `cdef` and variables of one type.
+    Declare(Declaration),
+    /// The lines of a `cdef:` group, one or more.
+    DeclareGroup(Items<Declaration>),
+}
+
+/// A test and the block that it guards, at its `if` or `elif`.
+#[cycle(statement)]
+#[derive(Debug, Drop)]
+pub struct Arm {
+    pub number: u32,
+    pub at: Span,
+    pub test: Expr,
+    pub block: Items<Stmt>,
+}
+
+/// Variables that are declared with one type: at the `cdef` of their line, and in a group at the first token of their line.
+#[derive(Debug, Drop)]
+pub struct Declaration {
+    pub number: u32,
+    pub at: Span,
+    pub typing: Type,
+    pub names: Items<Declarator>,
+}
+
+/// A declared variable, and the value that it is given.
+#[derive(Debug, Drop)]
+pub struct Declarator {
+    pub number: u32,
+    pub at: Span,
+    pub name: Chars,
+    pub value: Option<Expr>,
+}

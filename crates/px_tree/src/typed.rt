@@ -1,0 +1,13 @@
+use crate::modules::Module;
+use px_base::{Constant, Sequence};
+
+/// Constants that the code of a module names; none where the code names `None`.
+pub type Constants = Sequence<Constant>;
+
+/// A module whose names and expressions have their types.
+#[derive(Debug, Drop)]
+pub struct Typed {
+    pub module: Module,
+    /// The texts and wide numbers that the module's code names, in the order in which it first names them.
+    pub constants: Constants,
+}
