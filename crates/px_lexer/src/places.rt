@@ -55,7 +55,7 @@ fn line_ends(cs: &Characters, at: usize) -> bool
     ensures { result ≡ ends_line cs.now at }
 {
     let code = cs.code(at);
-    code == 10 || code == 13 && (cs.len() == at + 1 || cs.code(at + 1) != 10)
+    code == u32::from(b'\n') || code == u32::from(b'\r') && cs.code_ahead(at, 1) != u32::from(b'\n')
 }
 
 /// The place behind the character of a place.
