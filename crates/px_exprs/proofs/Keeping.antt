@@ -43,14 +43,14 @@ place_kept {ts} n {i} h lt = record { token = h.token; stands = slice_get-take n
 of_kept : {A : Type 0} {table : List (Operator × A)} {ts : List Terminal} (n : ℕ) {i : ℕ} {meant : A} → IsOf table ts i meant → i < n → IsOf table (take n ts) i meant
 of_kept n h lt = record { spelled = h.spelled; known = h.known; stands = kind_kept n h.stands lt }
 
-comparison_kept : {ts : List Terminal} (n : ℕ) {i j : ℕ} {meant : CompareOp} → IsCompareOp ts i meant j → (i < j) × (j ≤ n → IsCompareOp (take n ts) i meant j)
+pub comparison_kept : {ts : List Terminal} (n : ℕ) {i j : ℕ} {meant : CompareOp} → IsCompareOp ts i meant j → (i < j) × (j ≤ n → IsCompareOp (take n ts) i meant j)
 comparison_kept n (IsCompareOp.by_sign o e) = (omega (arith, e), λ le. IsCompareOp.by_sign (of_kept n o (omega (arith, e, le))) e)
 comparison_kept n (IsCompareOp.in_ h m e) = (omega (arith, e), λ le. IsCompareOp.in_ (kind_kept n h (omega (arith, e, le))) m e)
 comparison_kept n (IsCompareOp.not_in h g m e) = (omega (arith, e), λ le. IsCompareOp.not_in (kind_kept n h (omega (arith, e, le))) (kind_kept n g (omega (arith, e, le))) m e)
 comparison_kept n (IsCompareOp.is_ h m e) = (omega (arith, e), λ le. IsCompareOp.is_ (kind_kept n h (omega (arith, e, le))) m e)
 comparison_kept n (IsCompareOp.is_not h g m e) = (omega (arith, e), λ le. IsCompareOp.is_not (kind_kept n h (omega (arith, e, le))) (kind_kept n g (omega (arith, e, le))) m e)
 
-texts_kept : {ts : List Terminal} (n : ℕ) {i j : ℕ} {contents : List (List ℕ)} → AreTexts ts i contents j → (i < j) × (j ≤ n → AreTexts (take n ts) i contents j)
+pub texts_kept : {ts : List Terminal} (n : ℕ) {i j : ℕ} {contents : List (List ℕ)} → AreTexts ts i contents j → (i < j) × (j ≤ n → AreTexts (take n ts) i contents j)
 texts_kept n (AreTexts.last_text t) = (omega arith, λ le. AreTexts.last_text (kind_kept n t (omega (arith, le))))
 texts_kept n (AreTexts.more_texts t others) =
     let later = texts_kept n others in
@@ -86,7 +86,7 @@ const_kept : {ts : List Terminal} (n i : ℕ) (is_const : Bool) (j : ℕ) → Ha
 const_kept n i is_const j (HasConst.plain m e) = (omega (arith, e), λ le. HasConst.plain m e)
 const_kept n i is_const j (HasConst.const c m e) = (omega (arith, e), λ le. HasConst.const (name_kept n c (omega (arith, e, le))) m e)
 
-typing_kept : {ts : List Terminal} (n : ℕ) {i d j : ℕ} {t : Typing} → IsTyping ts i t d j → (i ≤ j) × (j < n → IsTyping (take n ts) i t d j)
+pub typing_kept : {ts : List Terminal} (n : ℕ) {i d j : ℕ} {t : Typing} → IsTyping ts i t d j → (i ≤ j) × (j < n → IsTyping (take n ts) i t d j)
 typing_kept {ts} n {i} {d} {j} {t} h =
     let c = const_kept n i t.is_const h.base_from h.const in
     let b = names_kept ts n h.base_from h.axes_from h.base.words h.base.stand in

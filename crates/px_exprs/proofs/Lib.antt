@@ -9,3 +9,6 @@ pub mod ListLaws
 pub mod AtomLaws
 pub mod Uniqueness
 pub mod NameLaws
+pub mod NodeEquations
+pub mod NodeRanges
+pub mod NodeLaws

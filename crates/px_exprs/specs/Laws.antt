@@ -1,10 +1,11 @@
 -- Laws of the grammar of expressions.
-use Rattle.std.specs.Prelude.{◌≡◌, ℕ, suc, List}
+use Rattle.std.specs.Prelude.{◌≡◌, ℕ, suc, ◌<◌, ◌≤◌, List, All}
 use Rattle.px_base.specs.declared.refusals.Span.{Span}
 use Rattle.px_tree.specs.declared.expressions.Expr.{Expr}
 use Rattle.px_tree.specs.declared.expressions.ExprForm.TheVariants as form
 use Rattle.px_exprs.specs.Terminals.{Terminal, IsAt, IsName}
 use Rattle.px_exprs.specs.Grammar.{IsExpr, node}
+use Rattle.px_exprs.specs.NodeNumbers.{node_numbers, AreDistinct}
 
 -- tokens from one index to before another are one expression at most, with one nesting
 abbrev pub ExpressionsAreUnique : Type 0
@@ -14,3 +15,8 @@ ExpressionsAreUnique =
 -- each identifier is an expression, also one that is a word of a type or a function's head elsewhere
 abbrev pub NamesAreExpressions : Type 0
 NamesAreExpressions = (ts : List Terminal) (i : ℕ) (at : Span) (name : List ℕ) → IsAt ts i at → IsName ts i name → IsExpr ts i (node i at (form.Name name)) 0 (suc i)
+
+-- the numbers of the nodes of an expression are indices of its tokens, each once
+abbrev pub NodeNumbersAreDistinct : Type 0
+NodeNumbersAreDistinct =
+    (ts : List Terminal) (from to : ℕ) (e : Expr) (depth : ℕ) → IsExpr ts from e depth to → All (λ n. (from ≤ n) × (n < to)) (node_numbers e) × AreDistinct (node_numbers e)

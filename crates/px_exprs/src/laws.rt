@@ -1,4 +1,8 @@
-ghost use Rattle.px_exprs.specs.Laws.{ExpressionsAreUnique, NamesAreExpressions};
+ghost use Rattle.px_exprs.specs.Laws.{
+  ExpressionsAreUnique,
+  NamesAreExpressions,
+  NodeNumbersAreDistinct,
+};
 
 /// Tokens are one expression at most, with one tree and one nesting.
 pub fn expressions_are_unique()
@@ -8,4 +12,9 @@ pub fn expressions_are_unique()
 /// Each identifier is an expression, whatever it means in a type or in the head of a function.
 pub fn names_are_expressions()
     ensures { NamesAreExpressions }
+{}
+
+/// The numbers of the nodes of an expression are the indices of some of its tokens, each once.
+pub fn node_numbers_are_distinct()
+    ensures { NodeNumbersAreDistinct }
 {}
