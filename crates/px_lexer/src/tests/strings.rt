@@ -29,6 +29,7 @@ Not ended: E4 where the string or its prefix begins
 'a%0Db'|E4 1:1
 'a%0D%0Ab'|E4 1:1
 x = 'a|E4 1:5
+x = "ab|E4 1:5
 x = "a'%0A|E4 1:5
 '''|E4 1:1
 '''a''|E4 1:1
