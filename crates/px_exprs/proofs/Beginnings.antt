@@ -11,7 +11,8 @@ use Rattle.px_tree.specs.declared.expressions.Item.{Item}
 use Rattle.px_tree.specs.declared.expressions.Entry.{Entry}
 use Rattle.px_exprs.specs.Terminals.{Terminal, IsOperator}
 use Rattle.px_exprs.specs.Grammar.{Level, binary_levels, AreTexts, IsCompareOp, IsExpr, IsOr, AreOrs, IsAnd, AreAnds, IsNot, IsCompare, AreComparisons, IsBinary, AreLinks, IsUnary, IsPrimary, AreTrailers, IsTrailer, AreArguments, IsArgument, AreItems, IsItem, MaybeExpr, AreExprs, AreEntries, IsAtom}
-use Rattle.px_exprs.proofs.Codes.{code_at, code_here, name_code}
+use Rattle.px_exprs.specs.Codes.{code_at}
+use Rattle.px_exprs.proofs.Codes.{code_here, name_code}
 use Rattle.px_exprs.proofs.Tables.{AreLevels, unary_code, compare_code, binary_code, are_levels, six_levels}
 
 -- What an operand or a list begins with
@@ -53,7 +54,7 @@ atom_first (IsAtom.list at opened p ending closed e) = code_here opened
 atom_first (IsAtom.empty_dict at opened closed e) = code_here opened
 atom_first (IsAtom.dict at opened p ending closed e) = code_here opened
 
-atom_begins : {ts : List Terminal} {i d j : ℕ} {e : Expr} → IsAtom ts i e d j → code_at ts i ≤ 10
+pub atom_begins : {ts : List Terminal} {i d j : ℕ} {e : Expr} → IsAtom ts i e d j → code_at ts i ≤ 10
 atom_begins p = omega (arith, atom_first p, bound p)
   where
     bound : {ts : List Terminal} {i d j : ℕ} {e : Expr} (p : IsAtom ts i e d j) → atom_code p ≤ 10
@@ -76,7 +77,7 @@ pub primary_begins : {ts : List Terminal} {i d j : ℕ} {e : Expr} → IsPrimary
 primary_begins (IsPrimary.one_atom p) = atom_begins p
 primary_begins (IsPrimary.row at p others e) = atom_begins p
 
-unary_begins : {ts : List Terminal} {i d j : ℕ} {e : Expr} → IsUnary ts i e d j → code_at ts i ≤ 18
+pub unary_begins : {ts : List Terminal} {i d j : ℕ} {e : Expr} → IsUnary ts i e d j → code_at ts i ≤ 18
 unary_begins (IsUnary.signed at meant p e) = omega (arith, (unary_code meant).1)
 unary_begins (IsUnary.cast at less t greater p e) = omega (arith, code_here less)
 unary_begins (IsUnary.unsigned p) = omega (arith, primary_begins p)
@@ -90,15 +91,15 @@ pub compare_begins : {ts : List Terminal} {i d j : ℕ} {e : Expr} → IsCompare
 compare_begins (IsCompare.one_operand p) = binary_begins p
 compare_begins (IsCompare.compare_chain at p others e) = binary_begins p
 
-not_begins : {ts : List Terminal} {i d j : ℕ} {e : Expr} → IsNot ts i e d j → code_at ts i ≤ 21
+pub not_begins : {ts : List Terminal} {i d j : ℕ} {e : Expr} → IsNot ts i e d j → code_at ts i ≤ 21
 not_begins (IsNot.compared p) = omega (arith, compare_begins p)
 not_begins (IsNot.denied at denial p e) = omega (arith, code_here denial)
 
-and_begins : {ts : List Terminal} {i d j : ℕ} {e : Expr} → IsAnd ts i e d j → code_at ts i ≤ 21
+pub and_begins : {ts : List Terminal} {i d j : ℕ} {e : Expr} → IsAnd ts i e d j → code_at ts i ≤ 21
 and_begins (IsAnd.one_not p) = not_begins p
 and_begins (IsAnd.and_chain at p others e) = not_begins p
 
-or_begins : {ts : List Terminal} {i d j : ℕ} {e : Expr} → IsOr ts i e d j → code_at ts i ≤ 21
+pub or_begins : {ts : List Terminal} {i d j : ℕ} {e : Expr} → IsOr ts i e d j → code_at ts i ≤ 21
 or_begins (IsOr.one_and p) = and_begins p
 or_begins (IsOr.or_chain at p others e) = and_begins p
 
@@ -114,7 +115,7 @@ pub entries_begin : {ts : List Terminal} {i d j : ℕ} {es : List Entry} → Are
 entries_begin (AreEntries.last_entry p colon q) = expr_begins p
 entries_begin (AreEntries.more_entries p colon q comma others) = expr_begins p
 
-argument_begins : {ts : List Terminal} {i d j : ℕ} {a : Argument} → IsArgument ts i a d j → code_at ts i ≤ 21
+pub argument_begins : {ts : List Terminal} {i d j : ℕ} {a : Argument} → IsArgument ts i a d j → code_at ts i ≤ 21
 argument_begins (IsArgument.positional p) = expr_begins p
 argument_begins (IsArgument.keyword n equal p) = omega (arith, name_code n)
 
@@ -128,7 +129,7 @@ maybe_begins MaybeExpr.absent colon = inr (code_here colon)
 maybe_begins (MaybeExpr.present p) colon = inl (expr_begins p)
 
 -- an item begins with no bracket that closes
-item_begins : {ts : List Terminal} {i d j : ℕ} {a : Item} → IsItem ts i a d j → (code_at ts i ≤ 21) ⊎ (31 ≤ code_at ts i)
+pub item_begins : {ts : List Terminal} {i d j : ℕ} {a : Item} → IsItem ts i a d j → (code_at ts i ≤ 21) ⊎ (31 ≤ code_at ts i)
 item_begins (IsItem.index p) = inl (expr_begins p)
 item_begins (IsItem.ellipsis p) = inr (omega (arith, code_here p))
 item_begins (IsItem.slice p colon q) = elim (maybe_begins p colon) [ inl x ↦ inl x | inr x ↦ inr (omega (arith, x)) ]
@@ -148,7 +149,7 @@ pub ands_begin : {ts : List Terminal} {k d j : ℕ} {es : List Expr} → AreAnds
 ands_begin (AreAnds.last_and o p) = code_here o
 ands_begin (AreAnds.more_ands o p others) = code_here o
 
-comparison_code : {ts : List Terminal} {k l : ℕ} {meant : CompareOp} → IsCompareOp ts k meant l → (18 ≤ code_at ts k) × (code_at ts k ≤ 22)
+pub comparison_code : {ts : List Terminal} {k l : ℕ} {meant : CompareOp} → IsCompareOp ts k meant l → (18 ≤ code_at ts k) × (code_at ts k ≤ 22)
 comparison_code (IsCompareOp.by_sign o e) = let x = compare_code o in (x.0, omega (arith, x.1))
 comparison_code (IsCompareOp.in_ h m e) = (omega (arith, code_here h), omega (arith, code_here h))
 comparison_code (IsCompareOp.not_in h g m e) = (omega (arith, code_here h), omega (arith, code_here h))
@@ -163,7 +164,7 @@ pub links_begin : {ts : List Terminal} {level : Level} {tighter : List Level} {k
 links_begin {tighter} levels (AreLinks.last_link o p) = binary_code tighter levels o
 links_begin {tighter} levels (AreLinks.more_links o p others) = binary_code tighter levels o
 
-trailer_begins : {ts : List Terminal} {k d j : ℕ} {t : Trailer} → IsTrailer ts k t d j → (1 ≤ code_at ts k) × (code_at ts k ≤ 10)
+pub trailer_begins : {ts : List Terminal} {k d j : ℕ} {t : Trailer} → IsTrailer ts k t d j → (1 ≤ code_at ts k) × (code_at ts k ≤ 10)
 trailer_begins (IsTrailer.attribute p n) = (omega (arith, code_here p), omega (arith, code_here p))
 trailer_begins (IsTrailer.empty_call p c) = (omega (arith, code_here p), omega (arith, code_here p))
 trailer_begins (IsTrailer.call p a ending c) = (omega (arith, code_here p), omega (arith, code_here p))

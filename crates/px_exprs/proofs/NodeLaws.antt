@@ -15,10 +15,10 @@ use Rattle.px_tree.specs.declared.expressions.Item.{Item}
 use Rattle.px_tree.specs.declared.expressions.Entry.{Entry}
 use Rattle.px_exprs.specs.Terminals.{Terminal}
 use Rattle.px_exprs.specs.Typings.{IsTyping}
-use Rattle.px_exprs.specs.Grammar.{node, Level, IsExpr, IsOr, AreOrs, IsAnd, AreAnds, IsNot, IsCompare, AreComparisons, IsBinary, AreLinks, IsUnary, IsPrimary, AreTrailers, IsTrailer, AreArguments, IsArgument, AreItems, IsItem, MaybeExpr, HasComma, AreExprs, AreEntries, IsAtom, HasCommas}
+use Rattle.px_exprs.specs.Grammar.{node, Level, IsExpr, IsOr, AreOrs, IsAnd, AreAnds, IsNot, IsCompare, AreComparisons, IsBinary, AreLinks, IsUnary, IsPrimary, AreTrailers, IsTrailer, AreArguments, IsArgument, AreItems, IsItem, MaybeExpr, AreExprs, AreEntries, IsAtom, HasCommas}
 use Rattle.px_exprs.specs.Laws.{NodeNumbersAreDistinct}
 use Rattle.px_exprs.specs.NodeNumbers.{node_numbers}
-use Rattle.px_exprs.proofs.Keeping.{texts_kept, typing_kept, comparison_kept}
+use Rattle.px_exprs.proofs.Keeping.{texts_forward, typing_forward, comma_forward, comparison_forward}
 use Rattle.px_exprs.proofs.NodeRanges.{Fits, nothing, wider, before, both, between}
 use Rattle.px_exprs.proofs.NodeEquations.{form_numbers, entry_numbers, trailer_numbers, argument_numbers, item_numbers, link_numbers, comparison_numbers, maybe_numbers, of_node, of_link, of_comparison, of_argument, of_entry, of_form_Conditional, of_form_Or, of_form_And, of_form_Not, of_form_Compare, of_form_Chain, of_form_Unary, of_form_Row, of_trailer_Attribute, of_trailer_Call, of_trailer_Subscript, of_item_Index, of_item_Ellipsis, of_item_Slice, of_form_Name, of_form_Number, of_form_Text, of_form_True, of_form_False, of_form_None, of_form_Tuple, of_form_List, of_form_Dict, of_form_Cast, of_form_Sizeof}
 
@@ -36,10 +36,6 @@ same_numbers {ns} {ms} {i} {j} same f = subst (λ xs. Fits xs i j) (sym same) f
 -- a node's number, and those of what it is
 as_node : {e : Expr} {k : ℕ} {at : Span} {f : ExprForm} {ns : List ℕ} {i j : ℕ} → e ≡ node k at f → form_numbers f ≡ ns → Fits (k ∷ ns) i j → Fits (node_numbers e) i j
 as_node {e} {k} {at} {f} same is fit = same_numbers (ap node_numbers same ∙ of_node k at f ∙ ap (λ ns. k ∷ ns) is) fit
-
-comma_on : {ts : List Terminal} {l m : ℕ} → HasComma ts l m → l ≤ m
-comma_on HasComma.no_comma = omega arith
-comma_on (HasComma.comma h) = omega arith
 
 -- a leaf, of one token or more
 leaf : {e : Expr} {i : ℕ} {at : Span} {f : ExprForm} {j : ℕ} → i < j → e ≡ node i at f → form_numbers f ≡ [] → Spans (node_numbers e) i j
@@ -86,17 +82,17 @@ listed p le same is = led p.1 (omega (arith, p.0, le)) (omega (arith, le)) same 
 
 -- the number of a type
 typing_fits : {ts : List Terminal} {i d j : ℕ} {t : Typing} → IsTyping ts i t d j → Fits (t.number ∷ []) i (suc j)
-typing_fits {i} {j} {t} p = same_numbers (ap (λ n. n ∷ []) p.number) (before (omega (arith, (typing_kept 0 p).0)) nothing)
+typing_fits {i} {j} {t} p = same_numbers (ap (λ n. n ∷ []) p.number) (before (omega (arith, typing_forward p)) nothing)
 
 cast_spans : {ts : List Terminal} {e : Expr} (operand : Expr) {t : Typing} {at : Span} {i k d j : ℕ} → IsTyping ts (suc i) t d k → Spans (node_numbers operand) (suc k) j → e ≡ node i at (form.Cast t operand) → Spans (node_numbers e) i j
 cast_spans operand {t} p q same =
-    let le = (typing_kept 0 p).0 in
+    let le = typing_forward p in
     let typing = typing_fits p in
     led (both typing q.1 (omega (arith, le)) (omega arith) (omega (arith, q.0))) (omega (arith, le, q.0)) (omega arith) same (of_form_Cast t operand)
 
 sizeof_spans : {ts : List Terminal} {e : Expr} {t : Typing} {at : Span} {i k d : ℕ} → IsTyping ts (suc (suc i)) t d k → e ≡ node i at (form.Sizeof t) → Spans (node_numbers e) i (suc k)
 sizeof_spans {t} {k} p same =
-    let le = (typing_kept 0 p).0 in
+    let le = typing_forward p in
     led {k = suc k} (wider (typing_fits p) (omega arith) (omega arith)) (omega (arith, le)) (omega arith) same (of_form_Sizeof t)
 
 mutual
@@ -133,8 +129,8 @@ mutual
   compare_spans (IsCompare.compare_chain at p q same) = chained (binary_spans p) (comparisons_follow q) same (of_form_Compare _ _)
 
   comparisons_follow : {ts : List Terminal} {i d j : ℕ} {es : List Comparison} → AreComparisons ts i es d j → Follows (concat (map comparison_numbers es)) i j
-  comparisons_follow (AreComparisons.last_comparison p q) = one_follows (as_part (binary_spans q) (of_comparison _ _)) (comparison_kept 0 p).0
-  comparisons_follow (AreComparisons.more_comparisons p q r) = one_and_others (as_part (binary_spans q) (of_comparison _ _)) (comparisons_follow r) (comparison_kept 0 p).0
+  comparisons_follow (AreComparisons.last_comparison p q) = one_follows (as_part (binary_spans q) (of_comparison _ _)) (comparison_forward p)
+  comparisons_follow (AreComparisons.more_comparisons p q r) = one_and_others (as_part (binary_spans q) (of_comparison _ _)) (comparisons_follow r) (comparison_forward p)
 
   binary_spans : {ts : List Terminal} {levels : List Level} {i d j : ℕ} {e : Expr} → IsBinary ts levels i e d j → Spans (node_numbers e) i j
   binary_spans (IsBinary.tightest p) = unary_spans p
@@ -164,8 +160,8 @@ mutual
   trailer_follows : {ts : List Terminal} {i d j : ℕ} {t : Trailer} → IsTrailer ts i t d j → Follows (trailer_numbers t) i j
   trailer_follows (IsTrailer.attribute a b) = (omega arith, same_numbers (of_trailer_Attribute _) nothing)
   trailer_follows (IsTrailer.empty_call a b) = (omega arith, same_numbers (of_trailer_Call []) nothing)
-  trailer_follows (IsTrailer.call a p q b) = enclosed (arguments_span p) (comma_on q) (of_trailer_Call _)
-  trailer_follows (IsTrailer.subscript a p q b) = enclosed (items_span p) (comma_on q) (of_trailer_Subscript _ _)
+  trailer_follows (IsTrailer.call a p q b) = enclosed (arguments_span p) (comma_forward q) (of_trailer_Call _)
+  trailer_follows (IsTrailer.subscript a p q b) = enclosed (items_span p) (comma_forward q) (of_trailer_Subscript _ _)
 
   arguments_span : {ts : List Terminal} {i d j : ℕ} {es : List Argument} → AreArguments ts i es d j → Spans (concat (map argument_numbers es)) i j
   arguments_span (AreArguments.last_argument p) = last_spans (argument_spans p)
@@ -210,7 +206,7 @@ mutual
   atom_spans : {ts : List Terminal} {i d j : ℕ} {e : Expr} → IsAtom ts i e d j → Spans (node_numbers e) i j
   atom_spans (IsAtom.name at a same) = leaf (omega arith) same (of_form_Name _)
   atom_spans (IsAtom.number at a same) = leaf (omega arith) same (of_form_Number _)
-  atom_spans (IsAtom.texts at p same) = leaf (texts_kept 0 p).0 same (of_form_Text _)
+  atom_spans (IsAtom.texts at p same) = leaf (texts_forward p) same (of_form_Text _)
   atom_spans (IsAtom.true_ at a same) = leaf (omega arith) same of_form_True
   atom_spans (IsAtom.false_ at a same) = leaf (omega arith) same of_form_False
   atom_spans (IsAtom.none at a same) = leaf (omega arith) same of_form_None
@@ -219,15 +215,15 @@ mutual
   atom_spans (IsAtom.empty_tuple at a b same) = leaf (omega arith) same (of_form_Tuple [])
   atom_spans (IsAtom.tuple at a p b same) = let p' = commas_span p in led p'.1 (omega (arith, p'.0)) (omega arith) same (of_form_Tuple _)
   atom_spans (IsAtom.empty_list at a b same) = leaf (omega arith) same (of_form_List [])
-  atom_spans (IsAtom.list at a p q b same) = listed (exprs_span p) (comma_on q) same (of_form_List _)
+  atom_spans (IsAtom.list at a p q b same) = listed (exprs_span p) (comma_forward q) same (of_form_List _)
   atom_spans (IsAtom.empty_dict at a b same) = leaf (omega arith) same (of_form_Dict [])
-  atom_spans (IsAtom.dict at a p q b same) = listed (entries_span p) (comma_on q) same (of_form_Dict _)
+  atom_spans (IsAtom.dict at a p q b same) = listed (entries_span p) (comma_forward q) same (of_form_Dict _)
 
   commas_span : {ts : List Terminal} {i d j : ℕ} {es : List Expr} → HasCommas ts i es d j → Spans (concat (map node_numbers es)) i j
   commas_span (HasCommas.one_with_comma p a) = let p' = expr_spans p in (omega (arith, p'.0), wider (alone (omega (arith, p'.0)) p'.1) (omega arith) (omega arith))
   commas_span (HasCommas.several p a q r) =
       let p' = more_span (expr_spans p) (exprs_span q) in
-      (omega (arith, p'.0, comma_on r), wider p'.1 (omega arith) (comma_on r))
+      (omega (arith, p'.0, comma_forward r), wider p'.1 (omega arith) (comma_forward r))
 
 pub numbers_distinct : NodeNumbersAreDistinct
 numbers_distinct ts from to e depth p = let p' = expr_spans p in (p'.1.within, p'.1.distinct)

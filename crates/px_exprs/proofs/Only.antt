@@ -3,7 +3,8 @@ use Rattle.std.proofs.Common.{◌≡◌, ℕ, suc, ◌≤◌, List, refl, arith}
 use Rattle.px_exprs.specs.Terminals.{Terminal, IsOperator}
 use Rattle.px_lexer.specs.declared.spelling.Operator.TheVariants as sign
 use Rattle.px_exprs.specs.Grammar.{HasComma}
-use Rattle.px_exprs.proofs.Codes.{code_at, code_here}
+use Rattle.px_exprs.specs.Codes.{code_at}
+use Rattle.px_exprs.proofs.Codes.{code_here}
 
 -- they have one tree, one nesting and one end
 pub record Same {A : Type 0} (e f : A) (d c j k : ℕ) : Type 0 where
@@ -15,7 +16,7 @@ pub record Same {A : Type 0} (e f : A) (d c j k : ℕ) : Type 0 where
 abbrev pub IsOnly : {A : Type 0} → (A → ℕ → ℕ → Type 0) → (ℕ → Type 0) → A → ℕ → ℕ → Type 0
 IsOnly {A} X S e d j = S j → (f : A) (c k : ℕ) → X f c k → S k → Same e f d c j k
 
--- a token of this code or a greater one
+-- a token of this code or a greater one: behind an expression that may be absent stands none that begins one
 abbrev pub From : List Terminal → ℕ → ℕ → Type 0
 From ts n j = n ≤ code_at ts j
 

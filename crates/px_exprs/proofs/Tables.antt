@@ -11,7 +11,8 @@ use Rattle.px_tree.specs.declared.expressions.CompareOp.{CompareOp}
 use Rattle.px_tree.specs.declared.expressions.CompareOp.TheVariants as compare
 use Rattle.px_exprs.specs.Terminals.{Terminal}
 use Rattle.px_exprs.specs.Grammar.{Level, binary_levels, unary_operators, compare_signs, IsOf}
-use Rattle.px_exprs.proofs.Codes.{code_at, code_here, sign_code, one_operator}
+use Rattle.px_exprs.specs.Codes.{code_at, sign_code}
+use Rattle.px_exprs.proofs.Codes.{code_here, one_operator}
 
 -- a meaning of each operator
 abbrev binary_meaning : Operator → BinOp

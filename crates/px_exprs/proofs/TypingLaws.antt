@@ -9,13 +9,14 @@ use Rattle.px_tree.specs.declared.typings.BaseType.TheVariants as base
 use Rattle.px_tree.specs.declared.typings.«Type».{«Type» as Typing}
 use Rattle.px_exprs.specs.Terminals.{Terminal, IsName}
 use Rattle.px_exprs.specs.Typings.{bases, AreNames, IsBase, IsAxis, AreAxes, HasAxes, HasConst, IsTyping}
-use Rattle.px_exprs.proofs.Codes.{code_at, code_here, name_code, one_name, one_place}
+use Rattle.px_exprs.specs.Codes.{code_at}
+use Rattle.px_exprs.proofs.Codes.{code_here, name_code, one_name, one_place}
 use Rattle.px_exprs.proofs.Only.{Same}
 
 -- Bases
 
 -- identifiers from one index, behind each of which no identifier stands, are the same
-names_unique : (ts : List Terminal) (i j k : ℕ) (words others : List (List ℕ)) → AreNames ts i words j → AreNames ts i others k → 3 ≤ code_at ts j → 3 ≤ code_at ts k → (words ≡ others) × (j ≡ k)
+pub names_unique : (ts : List Terminal) (i j k : ℕ) (words others : List (List ℕ)) → AreNames ts i words j → AreNames ts i others k → 3 ≤ code_at ts j → 3 ≤ code_at ts k → (words ≡ others) × (j ≡ k)
 names_unique ts i j k [] [] a b s t = (refl, sym a ∙ b)
 names_unique ts i j k [] (name ∷ others) a b s t = absurd (omega (arith, ap (code_at ts) a, name_code b.0, s))
 names_unique ts i j k (name ∷ words) [] a b s t = absurd (omega (arith, ap (code_at ts) b, name_code a.0, t))
@@ -24,23 +25,23 @@ names_unique ts i j k (name ∷ words) (other ∷ others) a b s t =
     (ap₂ (λ x xs. x ∷ xs) (one_name a.0 b.0) later.0, later.1)
 
 -- whether two lists of words are the same
-abbrev same_words : List (List ℕ) → List (List ℕ) → Bool
+abbrev pub same_words : List (List ℕ) → List (List ℕ) → Bool
 same_words [] [] = true
 same_words [] (w ∷ ws) = false
 same_words (v ∷ vs) [] = false
 same_words (v ∷ vs) (w ∷ ws) = bytes_eq v w && same_words vs ws
 
 -- the first base with these words
-abbrev base_of : List (List (List ℕ) × BaseType) → List (List ℕ) → BaseType
+abbrev pub base_of : List (List (List ℕ) × BaseType) → List (List ℕ) → BaseType
 base_of [] words = base.Object
 base_of (row ∷ rows) words = if same_words row.0 words then row.1 else base_of rows words
 
 -- there is a first word, which isn't `const`
-abbrev begins_base : List (List ℕ) → Bool
+abbrev pub begins_base : List (List ℕ) → Bool
 begins_base [] = false
 begins_base (w ∷ ws) = not (bytes_eq w (codes "const"))
 
-abbrev Tells : List (List (List ℕ) × BaseType) → List (List ℕ) × BaseType → Type 0
+abbrev pub Tells : List (List (List ℕ) × BaseType) → List (List ℕ) × BaseType → Type 0
 Tells table row = (base_of table row.0 ≡ row.1) × (begins_base row.0 ≡ true)
 
 abbrev Rows : List (List (List ℕ) × BaseType) → List (List (List ℕ) × BaseType) → Type 0
@@ -55,15 +56,15 @@ all_rows : Rows bases bases
 unfolding bases
 all_rows = (refl, refl, (refl, refl, (refl, refl, (refl, refl, (refl, refl, (refl, refl, (refl, refl, (refl, refl, (refl, refl, (refl, refl, (refl, refl, (refl, refl, (refl, refl, (refl, refl, (refl, refl, (refl, refl, (refl, refl, (refl, refl, (refl, refl, (refl, refl, (refl, refl, (refl, refl, (refl, refl, (refl, refl, (refl, refl, (refl, refl, (refl, refl, (refl, refl, (refl, refl, (refl, refl, (refl, refl, (refl, refl, (refl, refl, (refl, refl, tt))))))))))))))))))))))))))))))))))
 
-base_tells : (words : List (List ℕ)) (b : BaseType) → Contains bases (words, b) → Tells bases (words, b)
+pub base_tells : (words : List (List ℕ)) (b : BaseType) → Contains bases (words, b) → Tells bases (words, b)
 base_tells words b known = All-contains (Tells bases) bases (words, b) (each_row bases bases all_rows) known
 
-base_unique : {ts : List Terminal} (i j k : ℕ) (b other : BaseType) → IsBase ts i b j → IsBase ts i other k → 3 ≤ code_at ts j → 3 ≤ code_at ts k → (b ≡ other) × (j ≡ k)
+pub base_unique : {ts : List Terminal} (i j k : ℕ) (b other : BaseType) → IsBase ts i b j → IsBase ts i other k → 3 ≤ code_at ts j → 3 ≤ code_at ts k → (b ≡ other) × (j ≡ k)
 base_unique {ts} i j k b other g h s t =
     let same = names_unique ts i j k g.words h.words g.stand h.stand s t in
     (sym (base_tells g.words b g.known).0 ∙ ap (base_of bases) same.0 ∙ (base_tells h.words other h.known).0, same.1)
 
-const_begins_none : {ts : List Terminal} {i : ℕ} (j : ℕ) (b : BaseType) → IsName ts i (codes "const") → IsBase ts i b j → ⊥
+pub const_begins_none : {ts : List Terminal} {i : ℕ} (j : ℕ) (b : BaseType) → IsName ts i (codes "const") → IsBase ts i b j → ⊥
 const_begins_none {ts} {i} j b c g = by_words g.words g.stand (base_tells g.words b g.known).1
   where
     by_words : (words : List (List ℕ)) → AreNames ts i words j → begins_base words ≡ true → ⊥
@@ -72,7 +73,7 @@ const_begins_none {ts} {i} j b c g = by_words g.words g.stand (base_tells g.word
 
 -- `const`
 
-const_unique : {ts : List Terminal} (i j k : ℕ) (is_const other : Bool) → HasConst ts i is_const j → HasConst ts i other k → (l m : ℕ) (b c : BaseType) → IsBase ts j b l → IsBase ts k c m
+pub const_unique : {ts : List Terminal} (i j k : ℕ) (is_const other : Bool) → HasConst ts i is_const j → HasConst ts i other k → (l m : ℕ) (b c : BaseType) → IsBase ts j b l → IsBase ts k c m
     → (is_const ≡ other) × (j ≡ k)
 const_unique {ts} i j k is_const other (HasConst.plain m e) (HasConst.plain n f) l o b c g h = (m ∙ sym n, e ∙ sym f)
 const_unique {ts} i j k is_const other (HasConst.plain m e) (HasConst.const w n f) l o b c g h = absurd (const_begins_none l b w (subst (λ x. IsBase ts x b l) e g))
@@ -82,7 +83,7 @@ const_unique {ts} i j k is_const other (HasConst.const w m e) (HasConst.const v 
 -- Axes
 
 -- behind an axis stands a comma or a bracket
-axis_unique : {ts : List Terminal} (i j k : ℕ) (a b : Axis) → IsAxis ts i a j → IsAxis ts i b k → code_at ts j ≤ 30 → code_at ts k ≤ 30 → (a ≡ b) × (j ≡ k)
+pub axis_unique : {ts : List Terminal} (i j k : ℕ) (a b : Axis) → IsAxis ts i a j → IsAxis ts i b k → code_at ts j ≤ 30 → code_at ts k ≤ 30 → (a ≡ b) × (j ≡ k)
 axis_unique i j k a b (IsAxis.strided c m e) (IsAxis.strided d n f) s t = (m ∙ sym n, e ∙ sym f)
 axis_unique {ts} i j k a b (IsAxis.strided c m e) (IsAxis.contiguous one d second stands number spelled n f) s t =
     absurd (omega (arith, code_here second, ap (code_at ts) (let t : i + 1 ≡ j = omega (arith, e) in t), s))
@@ -90,7 +91,7 @@ axis_unique {ts} i j k a b (IsAxis.contiguous one d second stands number spelled
     absurd (omega (arith, code_here second, ap (code_at ts) (let t : i + 1 ≡ k = omega (arith, f) in t), t))
 axis_unique i j k a b (IsAxis.contiguous one d second stands number spelled m e) (IsAxis.contiguous uno c zwei stand numero spelt n f) s t = (m ∙ sym n, e ∙ sym f)
 
-axes_unique : {ts : List Terminal} (i j : ℕ) (axes : List Axis) → AreAxes ts i axes j → (k : ℕ) (others : List Axis) → AreAxes ts i others k → code_at ts j ≡ 29 → code_at ts k ≡ 29 → (axes ≡ others) × (j ≡ k)
+pub axes_unique : {ts : List Terminal} (i j : ℕ) (axes : List Axis) → AreAxes ts i axes j → (k : ℕ) (others : List Axis) → AreAxes ts i others k → code_at ts j ≡ 29 → code_at ts k ≡ 29 → (axes ≡ others) × (j ≡ k)
 axes_unique {ts} i j _ (AreAxes.last_axis a) k _ (AreAxes.last_axis b) s t =
     let same = axis_unique i j k _ _ a b (omega (arith, s)) (omega (arith, t)) in
     (ap (λ x. x ∷ []) same.0, same.1)
@@ -105,11 +106,11 @@ axes_unique {ts} i j _ (AreAxes.more_axes {k = l} a comma more) k _ (AreAxes.mor
     let later = axes_unique (suc l) j _ more k rest (subst (λ x. AreAxes ts (suc x) rest k) (sym same.1) others) s t in
     (ap₂ (λ x xs. x ∷ xs) same.0 later.0, later.1)
 
-view_begins : {ts : List Terminal} (i d j : ℕ) (axes : List Axis) → HasAxes ts i axes d j → 11 ≤ code_at ts j → 10 ≤ code_at ts i
+pub view_begins : {ts : List Terminal} (i d j : ℕ) (axes : List Axis) → HasAxes ts i axes d j → 11 ≤ code_at ts j → 10 ≤ code_at ts i
 view_begins {ts} i d j axes (HasAxes.no_view m p e) s = omega (arith, ap (code_at ts) e, s)
 view_begins {ts} i d j axes (HasAxes.view k opened a closed p e) s = omega (arith, code_here opened)
 
-view_unique : {ts : List Terminal} (i d c j k : ℕ) (axes others : List Axis) → HasAxes ts i axes d j → HasAxes ts i others c k → 11 ≤ code_at ts j → 11 ≤ code_at ts k → Same axes others d c j k
+pub view_unique : {ts : List Terminal} (i d c j k : ℕ) (axes others : List Axis) → HasAxes ts i axes d j → HasAxes ts i others c k → 11 ≤ code_at ts j → 11 ≤ code_at ts k → Same axes others d c j k
 view_unique i d c j k axes others (HasAxes.no_view m p e) (HasAxes.no_view n q f) s t = record { tree = m ∙ sym n; depth = p ∙ sym q; end = e ∙ sym f }
 view_unique {ts} i d c j k axes others (HasAxes.no_view m p e) (HasAxes.view l opened a closed q f) s t = absurd (omega (arith, ap (code_at ts) e, code_here opened, s))
 view_unique {ts} i d c j k axes others (HasAxes.view l opened a closed p e) (HasAxes.no_view n q f) s t = absurd (omega (arith, ap (code_at ts) f, code_here opened, t))

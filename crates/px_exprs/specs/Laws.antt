@@ -1,10 +1,13 @@
 -- Laws of the grammar of expressions.
 use Rattle.std.specs.Prelude.{◌≡◌, ℕ, suc, ◌<◌, ◌≤◌, List, All}
 use Rattle.px_base.specs.declared.refusals.Span.{Span}
+use Rattle.px_base.specs.declared.refusals.Refusal.{Refusal}
 use Rattle.px_tree.specs.declared.expressions.Expr.{Expr}
 use Rattle.px_tree.specs.declared.expressions.ExprForm.TheVariants as form
 use Rattle.px_exprs.specs.Terminals.{Terminal, IsAt, IsName}
 use Rattle.px_exprs.specs.Grammar.{IsExpr, node}
+use Rattle.px_exprs.specs.Runs.{IsRead, IsExpressionRefused}
+use Rattle.px_exprs.specs.Marks.{IsMarkOf, node_marks}
 use Rattle.px_exprs.specs.NodeNumbers.{node_numbers, AreDistinct}
 
 -- tokens from one index to before another are one expression at most, with one nesting
@@ -20,3 +23,13 @@ NamesAreExpressions = (ts : List Terminal) (i : ℕ) (at : Span) (name : List �
 abbrev pub NodeNumbersAreDistinct : Type 0
 NodeNumbersAreDistinct =
     (ts : List Terminal) (from to : ℕ) (e : Expr) (depth : ℕ) → IsExpr ts from e depth to → All (λ n. (from ≤ n) × (n < to)) (node_numbers e) × AreDistinct (node_numbers e)
+
+-- From an index on the tokens are read in one way at most: as an expression, or with a refusal.
+pub record ReadingsAreUnique : Type 0 where
+  pub read : (ts : List Terminal) (from to other_to : ℕ) (e other : Expr) → IsRead ts from e to → IsRead ts from other other_to → (e ≡ other) × (to ≡ other_to)
+  pub refused : (ts : List Terminal) (from : ℕ) (refusal other : Refusal) → IsExpressionRefused ts from refusal → IsExpressionRefused ts from other → refusal ≡ other
+  pub either : (ts : List Terminal) (from to : ℕ) (e : Expr) (refusal : Refusal) → IsRead ts from e to → IsExpressionRefused ts from refusal → ⊥
+
+-- the places, names, numbers and strings of an expression are those of its tokens
+abbrev pub MarksAreOfTokens : Type 0
+MarksAreOfTokens = (ts : List Terminal) (from to : ℕ) (e : Expr) (depth : ℕ) → IsExpr ts from e depth to → All (IsMarkOf ts from to) (node_marks e)

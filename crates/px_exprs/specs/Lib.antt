@@ -1,6 +1,14 @@
+pub mod Codes
 pub mod Grammar
+pub mod Inputs
 pub mod Laws
+pub mod Lists
+pub mod Marks
 pub mod NodeNumbers
+pub mod Parts
+pub mod Readings
 pub mod Runs
 pub mod Terminals
+pub mod TypeParts
 pub mod Typings
+pub mod Words

@@ -25,12 +25,11 @@ pub record IsRun (ts : List Terminal) (from to : ℕ) : Type 0 where
 abbrev pub nesting_limit : ℕ
 nesting_limit = 64
 
--- each expression that begins with the tokens up to this one, which stands in a run, is nested too deep; the word `sizeof` itself
--- is no bracket and no operator, so that the place is that of the bracket behind it
+-- Some expression begins with the tokens up to this one, and each that does is nested too deep. The word `sizeof` itself is no
+-- bracket and no operator, so that the place is that of the bracket behind it.
 pub record IsTooDeep (ts : List Terminal) (from k : ℕ) : Type 0 where
-  pub to : ℕ
-  pub run : IsRun ts from to
-  pub inside : k < to
+  pub within : k < length ts
+  pub begins : Begins (take (suc k) ts) from
   pub counted : IsKeyword ts k word.Sizeof → ⊥
   pub deep : (more : List Terminal) (e : Expr) (depth : ℕ) → Derives (take (suc k) ts ++ more) from e depth → nesting_limit < depth
 

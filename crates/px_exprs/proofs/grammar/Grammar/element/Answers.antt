@@ -1,0 +1,20 @@
+use Rattle.std.proofs.Common.{Ok, Err, suc, ◌<◌, arith}
+use Rattle.std.proofs.lemmas.Result.{err_from_is_err_and}
+use Rattle.px_exprs.specs.Inputs.{terminals_of}
+use Rattle.px_exprs.proofs.Steps.{fails}
+use Rattle.px_exprs.proofs.ListSteps.{expr_step, element_stuck}
+use Rattle.px_exprs.proofs.grammar.Grammar.element.Goals as goal
+
+pub returns-in_err-found : goal.returns-in_err-found
+returns-in_err-found g c =
+    let ts = terminals_of c.args.tokens.now in
+    let p = err_from_is_err_and c.from_residual.result c.from_residual.ensures.1 in
+    let less : c.args.room < suc c.args.room = omega arith in
+    let refused = c.requires.nests.reads c.args.self.now.alloc c.args.tokens c.args.room c.args.from (Err c.in_err-found.field-0.0) c.requires.input c.requires.inside less c.in_err-found.ensures in
+    rw (p.1, p.2) (fails (expr_step c.requires.closes ts c.args.from c.args.room) c.in_err-found.field-0.0 refused)
+
+pub returns-else-ends_element : goal.returns-else-ends_element
+returns-else-ends_element g c =
+    let less : c.args.room < suc c.args.room = omega arith in
+    let reading = c.requires.nests.reads c.args.self.now.alloc c.args.tokens c.args.room c.args.from (Ok c.in_ok-found.found) c.requires.input c.requires.inside less c.in_ok-found.ensures in
+    element_stuck c.requires.closes reading (c.ends_element.ensures.fails c.if-ends_element.false)

@@ -1,0 +1,51 @@
+ghost use Rattle.std.specs.Prelude.{◌≡◌, ◌<◌, length, Err, IfOk};
+ghost use Rattle.px_base.specs.declared.refusals.Trouble.TheVariants.{Refused};
+ghost use Rattle.px_base.specs.declared.refusals.Refusal.{Refusal};
+ghost use Rattle.px_base.specs.Troubles.{IfRefused};
+ghost use Rattle.px_lexer.specs.Tokens.{IsTokens};
+ghost use Rattle.px_exprs.specs.Inputs.{terminals_of};
+ghost use Rattle.px_exprs.specs.Runs.{IsRead, IsRefusalAt, IsExpressionRefused};
+
+use crate::grammar::expr;
+use crate::readings::Unread;
+use crate::words::place;
+use px_base::{Refusal, Trouble};
+use px_lexer::Tokens;
+use px_tree::Expr;
+use std::alloc::Global;
+
+/// The greatest nesting of an expression.
+const NESTING_LIMIT: usize = 64;
+
+/// The refusal with this number at the token with this index.
+fn refused(tokens: &Tokens, number: u8, at: usize) -> Trouble
+    requires { at < length tokens.now.list }
+    ensures { (refusal : Refusal) × (result ≡ Refused refusal) × IsRefusalAt (terminals_of tokens.now) number at refusal }
+{
+    let span = place(tokens, at);
+    Trouble::Refused(Refusal {
+        number,
+        line: span.line,
+        column: span.column,
+    })
+}
+
+/// The expression from an index on, and the index of the token behind it. It is the longest run of tokens with which some
+/// expression begins, even where a shorter one is whole (Python Language Reference, 6 Expressions).
+///
+/// # Errors
+/// E5 at the token behind that run, where the run is no expression; E6 at the first token of the run with which each expression
+/// is nested too deep; of the two that at the lesser place. `NoMemory` where there is no memory for the tree.
+pub fn expression(alloc: Global, tokens: &Tokens, from: usize) -> Result<(Expr, usize), Trouble>
+    requires lexed { IsTokens tokens.now.text tokens.now.list tokens.now.comments }
+    requires inside { from < length tokens.now.list }
+    ensures read { IfOk result (λ found. IsRead (terminals_of tokens.now) from found.0 found.1) }
+    ensures refused { IfRefused result (IsExpressionRefused (terminals_of tokens.now) from) }
+{
+    match expr(alloc, tokens, NESTING_LIMIT, from) {
+        Ok(read) => Ok((read.tree, read.to)),
+        Err(Unread::Stuck(at)) => Err(refused(tokens, 5, at)),
+        Err(Unread::TooDeep(at)) => Err(refused(tokens, 6, at)),
+        Err(Unread::NoMemory) => Err(Trouble::NoMemory),
+    }
+}

@@ -1,0 +1,439 @@
+//! What stands behind an atom: names, calls and subscripts.
+
+ghost use Rattle.std.specs.Prelude.{◌≡◌, ◌<◌, ◌≤◌, ◌⊎◌, suc, length, true, false, IsTrue, IsFalse, IfOk};
+ghost use Rattle.px_lexer.specs.declared.spelling.Operator.TheVariants as sign;
+ghost use Rattle.px_exprs.specs.Terminals.{IsOperator};
+ghost use Rattle.px_exprs.specs.Codes.{Past, code_at, word_code, sign_code, begins_code};
+ghost use Rattle.px_exprs.specs.Grammar.{IsPrimary, AreTrailers, IsTrailer, AreArguments, IsArgument, AreItems, IsItem, MaybeExpr};
+ghost use Rattle.px_exprs.specs.Inputs.{IsInput, Nests, terminals_of};
+ghost use Rattle.px_exprs.specs.Lists.{Listed};
+ghost use Rattle.px_exprs.specs.Parts.{BeginsTrailer};
+ghost use Rattle.px_exprs.specs.Readings.{Reads, At, EndsElement, EndsBound};
+
+use crate::grammar::Grammar;
+use crate::lists::Listed;
+use crate::nodes::node;
+use crate::readings::{Read, Unread, room_within};
+use crate::words::{ends_element, is_name, is_operator, kind_at, name, operator_at};
+use px_base::Chars;
+use px_lexer::{Keyword, Operator, TokenKind, Tokens};
+use px_tree::{Argument, Expr, ExprForm, Item, Trailer};
+use sqlite_items::{Boxed, Items};
+use std::alloc::{AllocError, Global};
+
+/// Whether a trailer begins with the token at an index.
+fn begins_trailer(tokens: &Tokens, at: usize) -> bool
+    ensures holds { IsTrue result → BeginsTrailer (terminals_of tokens.now) at }
+    ensures fails { IsFalse result → BeginsTrailer (terminals_of tokens.now) at → ⊥ }
+{
+    match operator_at(tokens, at) {
+        Some(Operator::Point) => true,
+        Some(Operator::OpenParenthesis) => true,
+        Some(Operator::OpenBracket) => true,
+        _ => false,
+    }
+}
+
+/// Whether an expression begins with the token at an index.
+fn begins_expr(tokens: &Tokens, at: usize) -> bool
+    ensures { result ≡ begins_code (code_at (terminals_of tokens.now) at) }
+{
+    let Some(found) = kind_at(tokens, at) else {
+        return false;
+    };
+    match found {
+        TokenKind::Name => true,
+        TokenKind::Number(_) => true,
+        TokenKind::Text(_) => true,
+        TokenKind::Keyword(word) => begins_with_keyword(*word),
+        TokenKind::Operator(sign) => begins_with_operator(*sign),
+        _ => false,
+    }
+}
+
+/// Whether an expression begins with this keyword.
+fn begins_with_keyword(word: Keyword) -> bool
+    ensures { result ≡ begins_code (word_code word) }
+{
+    match word {
+        Keyword::False => true,
+        Keyword::None => true,
+        Keyword::True => true,
+        Keyword::Not => true,
+        Keyword::Sizeof => true,
+        _ => false,
+    }
+}
+
+/// Whether an expression begins with this operator.
+fn begins_with_operator(sign: Operator) -> bool
+    ensures { result ≡ begins_code (sign_code sign) }
+{
+    match sign {
+        Operator::Plus => true,
+        Operator::Minus => true,
+        Operator::Tilde => true,
+        Operator::Less => true,
+        Operator::OpenParenthesis => true,
+        Operator::OpenBracket => true,
+        Operator::OpenBrace => true,
+        _ => false,
+    }
+}
+
+/// The attribute from an index on, where its point stands.
+///
+/// # Errors
+/// `Stuck` behind the point where no name stands there; `NoMemory` where there is no memory for it.
+fn attribute(
+    alloc: Global,
+    tokens: &Tokens,
+    room: usize,
+    from: usize,
+) -> Result<Read<Trailer>, Unread>
+    requires input { IsInput tokens.now }
+    requires begins { IsOperator (terminals_of tokens.now) from sign.Point }
+    ensures { Reads IsTrailer (Past 1) (terminals_of tokens.now) from room result }
+{
+    let found = name(alloc, tokens, from + 1)?;
+    Ok(Read {
+        tree: Trailer::Attribute(found),
+        depth: 0,
+        to: from + 2,
+    })
+}
+
+/// A bound of a slice in memory of its own.
+///
+/// # Errors
+/// `AllocError` where there is no memory for it.
+fn boxed(alloc: Global, bound: Option<Expr>) -> Result<Option<Boxed<Expr>>, AllocError>
+    ensures { IfOk result (λ found. found ≡ bound) }
+{
+    match bound {
+        Some(found) => Ok(Some(Boxed::new(alloc, found)?)),
+        None => Ok(None),
+    }
+}
+
+/// Whether a colon, a comma or the closing bracket of a subscript stands at an index.
+fn ends_bound(tokens: &Tokens, at: usize) -> bool
+    ensures holds { IsTrue result → EndsBound (terminals_of tokens.now) at }
+    ensures fails { IsFalse result → EndsBound (terminals_of tokens.now) at → ⊥ }
+{
+    is_operator(tokens, at, Operator::Colon) || ends_element(tokens, at, Operator::CloseBracket)
+}
+
+impl<F: Fn(Global, &Tokens, usize, usize) -> Result<Read<Expr>, Unread>> Grammar<F> {
+    /// The argument of a call from an index on.
+    ///
+    /// # Errors
+    /// As `element`.
+    fn argument(&self, tokens: &Tokens, room: usize, from: usize) -> Result<Read<Argument>, Unread>
+        requires input { IsInput tokens.now }
+        requires inside { from < length tokens.now.list }
+        requires nests { Nests (suc room) (F.pre self.now.nested) (F.post self.now.nested) }
+        ensures { Reads IsArgument (EndsElement sign.CloseParenthesis) (terminals_of tokens.now) from room result }
+    {
+        if !is_name(tokens, from) || !is_operator(tokens, from + 1, Operator::Equal) {
+            let value = self.element(tokens, room, from, Operator::CloseParenthesis)?;
+            return Ok(Read {
+                tree: Argument {
+                    name: None,
+                    value: value.tree,
+                },
+                depth: value.depth,
+                to: value.to,
+            });
+        }
+        let found = name(self.alloc, tokens, from)?;
+        let value = self.element(tokens, room, from + 2, Operator::CloseParenthesis)?;
+        Ok(Read {
+            tree: Argument {
+                name: Some(found),
+                value: value.tree,
+            },
+            depth: value.depth,
+            to: value.to,
+        })
+    }
+
+    /// The arguments of a call from an index on, which stand before its closing parenthesis.
+    ///
+    /// # Errors
+    /// As `argument`.
+    fn arguments(
+        &self,
+        tokens: &Tokens,
+        room: usize,
+        from: usize,
+    ) -> Result<Read<Listed<Argument>>, Unread>
+        requires input { IsInput tokens.now }
+        requires inside { from < length tokens.now.list }
+        requires nests { Nests (suc room) (F.pre self.now.nested) (F.post self.now.nested) }
+        ensures { Reads (Listed AreArguments true) (At sign.CloseParenthesis) (terminals_of tokens.now) from room result }
+    {
+        let mut items = Items::new(self.alloc);
+        let mut depth: usize = 0;
+        let mut to = from;
+        while !is_operator(tokens, to, Operator::CloseParenthesis) {
+            let next = self.argument(tokens, room, to)?;
+            items.push(next.tree)?;
+            depth = depth.max(next.depth);
+            if is_operator(tokens, next.to, Operator::CloseParenthesis) {
+                return Ok(Read {
+                    tree: (items, false),
+                    depth,
+                    to: next.to,
+                });
+            }
+            to = next.to + 1;
+        }
+        Ok(Read {
+            tree: (items, from < to),
+            depth,
+            to,
+        })
+    }
+
+    /// The bound of a slice, or the index, from an index on; none where no expression begins there.
+    ///
+    /// # Errors
+    /// As `expr`; `Stuck` behind it too where neither a colon nor a comma nor the closing bracket stands there.
+    fn bound(&self, tokens: &Tokens, room: usize, from: usize) -> Result<Read<Option<Expr>>, Unread>
+        requires input { IsInput tokens.now }
+        requires inside { from < length tokens.now.list }
+        requires nests { Nests (suc room) (F.pre self.now.nested) (F.post self.now.nested) }
+        ensures { Reads MaybeExpr EndsBound (terminals_of tokens.now) from room result }
+    {
+        if !begins_expr(tokens, from) {
+            if !ends_bound(tokens, from) {
+                return Err(Unread::Stuck(from));
+            }
+            return Ok(Read {
+                tree: None,
+                depth: 0,
+                to: from,
+            });
+        }
+        let found = (self.nested)(self.alloc, tokens, room, from)?;
+        if !ends_bound(tokens, found.to) {
+            return Err(Unread::Stuck(found.to));
+        }
+        Ok(Read {
+            tree: Some(found.tree),
+            depth: found.depth,
+            to: found.to,
+        })
+    }
+
+    /// The slice from an index on, whose first bound was read, and behind which its `:` stands.
+    ///
+    /// # Errors
+    /// As `bound`; `Stuck` at a third `:` too.
+    fn slice(
+        &self,
+        tokens: &Tokens,
+        room: usize,
+        from: usize,
+        first: Read<Option<Expr>>,
+    ) -> Result<Read<Item>, Unread>
+        requires input { IsInput tokens.now }
+        requires inside { from < length tokens.now.list }
+        requires nests { Nests (suc room) (F.pre self.now.nested) (F.post self.now.nested) }
+        requires read { MaybeExpr (terminals_of tokens.now) from first.tree first.depth first.to }
+        requires shallow { first.depth ≤ room }
+        requires behind { IsOperator (terminals_of tokens.now) first.to sign.Colon }
+        requires plain { IsOperator (terminals_of tokens.now) from sign.Ellipsis → ⊥ }
+        ensures { Reads IsItem (EndsElement sign.CloseBracket) (terminals_of tokens.now) from room result }
+    {
+        let second = self.bound(tokens, room, first.to + 1)?;
+        let from_bound = boxed(self.alloc, first.tree)?;
+        let to_bound = boxed(self.alloc, second.tree)?;
+        if !is_operator(tokens, second.to, Operator::Colon) {
+            return Ok(Read {
+                tree: Item::Slice(from_bound, to_bound, None),
+                depth: first.depth.max(second.depth),
+                to: second.to,
+            });
+        }
+        let third = self.bound(tokens, room, second.to + 1)?;
+        if is_operator(tokens, third.to, Operator::Colon) {
+            return Err(Unread::Stuck(third.to));
+        }
+        let step = boxed(self.alloc, third.tree)?;
+        Ok(Read {
+            tree: Item::Slice(from_bound, to_bound, step),
+            depth: first.depth.max(second.depth.max(third.depth)),
+            to: third.to,
+        })
+    }
+
+    /// The item of a subscript from an index on.
+    ///
+    /// # Errors
+    /// As `slice`.
+    fn item(&self, tokens: &Tokens, room: usize, from: usize) -> Result<Read<Item>, Unread>
+        requires input { IsInput tokens.now }
+        requires inside { from < length tokens.now.list }
+        requires nests { Nests (suc room) (F.pre self.now.nested) (F.post self.now.nested) }
+        ensures { Reads IsItem (EndsElement sign.CloseBracket) (terminals_of tokens.now) from room result }
+    {
+        if is_operator(tokens, from, Operator::Ellipsis) {
+            if !ends_element(tokens, from + 1, Operator::CloseBracket) {
+                return Err(Unread::Stuck(from + 1));
+            }
+            return Ok(Read {
+                tree: Item::Ellipsis,
+                depth: 0,
+                to: from + 1,
+            });
+        }
+        let first = self.bound(tokens, room, from)?;
+        if is_operator(tokens, first.to, Operator::Colon) {
+            return self.slice(tokens, room, from, first);
+        }
+        let Read { tree, depth, to } = first;
+        match tree {
+            Some(index) => Ok(Read {
+                tree: Item::Index(index),
+                depth,
+                to,
+            }),
+            None => Err(Unread::Stuck(from)),
+        }
+    }
+
+    /// The items of a subscript from an index on, which stand before its closing bracket; there is one at least.
+    ///
+    /// # Errors
+    /// As `item`.
+    fn items(&self, tokens: &Tokens, room: usize, from: usize) -> Result<Read<Listed<Item>>, Unread>
+        requires input { IsInput tokens.now }
+        requires inside { from < length tokens.now.list }
+        requires nests { Nests (suc room) (F.pre self.now.nested) (F.post self.now.nested) }
+        ensures { Reads (Listed AreItems false) (At sign.CloseBracket) (terminals_of tokens.now) from room result }
+    {
+        let mut items = Items::new(self.alloc);
+        let mut depth: usize = 0;
+        let mut to = from;
+        while to == from || !is_operator(tokens, to, Operator::CloseBracket) {
+            let next = self.item(tokens, room, to)?;
+            items.push(next.tree)?;
+            depth = depth.max(next.depth);
+            if is_operator(tokens, next.to, Operator::CloseBracket) {
+                return Ok(Read {
+                    tree: (items, false),
+                    depth,
+                    to: next.to,
+                });
+            }
+            to = next.to + 1;
+        }
+        Ok(Read {
+            tree: (items, true),
+            depth,
+            to,
+        })
+    }
+
+    /// The trailer from an index on.
+    ///
+    /// # Errors
+    /// As `expr`.
+    fn trailer(&self, tokens: &Tokens, room: usize, from: usize) -> Result<Read<Trailer>, Unread>
+        requires input { IsInput tokens.now }
+        requires inside { from < length tokens.now.list }
+        requires nests { Nests room (F.pre self.now.nested) (F.post self.now.nested) }
+        ensures { Reads IsTrailer (Past 1) (terminals_of tokens.now) from room result }
+    {
+        let Some(sign) = operator_at(tokens, from) else {
+            return Err(Unread::Stuck(from));
+        };
+        match sign {
+            Operator::Point => attribute(self.alloc, tokens, room, from),
+            Operator::OpenParenthesis => {
+                let room = room_within(room, 0, from)?;
+                let found = self.arguments(tokens, room, from + 1)?;
+                Ok(Read {
+                    tree: Trailer::Call(found.tree.0),
+                    depth: found.depth + 1,
+                    to: found.to + 1,
+                })
+            }
+            Operator::OpenBracket => {
+                let room = room_within(room, 0, from)?;
+                let found = self.items(tokens, room, from + 1)?;
+                let (items, has_comma) = found.tree;
+                Ok(Read {
+                    tree: Trailer::Subscript(items, has_comma),
+                    depth: found.depth + 1,
+                    to: found.to + 1,
+                })
+            }
+            _ => Err(Unread::Stuck(from)),
+        }
+    }
+
+    /// The trailers from an index on, where the first begins.
+    ///
+    /// # Errors
+    /// As `trailer`.
+    fn trailers(
+        &self,
+        tokens: &Tokens,
+        room: usize,
+        from: usize,
+    ) -> Result<Read<Items<Trailer>>, Unread>
+        requires input { IsInput tokens.now }
+        requires inside { from < length tokens.now.list }
+        requires nests { Nests room (F.pre self.now.nested) (F.post self.now.nested) }
+        requires begins { BeginsTrailer (terminals_of tokens.now) from }
+        ensures { Reads AreTrailers (Past 12) (terminals_of tokens.now) from room result }
+    {
+        let mut found = Items::new(self.alloc);
+        let mut depth: usize = 0;
+        let mut to = from;
+        while begins_trailer(tokens, to) {
+            let next = self.trailer(tokens, room, to)?;
+            found.push(next.tree)?;
+            depth = depth.max(next.depth);
+            to = next.to;
+        }
+        Ok(Read {
+            tree: found,
+            depth,
+            to,
+        })
+    }
+
+    /// The atom from an index on with the trailers behind it.
+    ///
+    /// # Errors
+    /// As `expr`.
+    pub(crate) fn primary(
+        &self,
+        tokens: &Tokens,
+        room: usize,
+        from: usize,
+    ) -> Result<Read<Expr>, Unread>
+        requires input { IsInput tokens.now }
+        requires inside { from < length tokens.now.list }
+        requires nests { Nests room (F.pre self.now.nested) (F.post self.now.nested) }
+        ensures { Reads IsPrimary (Past 12) (terminals_of tokens.now) from room result }
+    {
+        let first = self.atom(tokens, room, from)?;
+        let number = first.to;
+        if !begins_trailer(tokens, number) {
+            return Ok(first);
+        }
+        let others = self.trailers(tokens, room, number)?;
+        let depth = first.depth.max(others.depth);
+        let form = ExprForm::Row(Boxed::new(self.alloc, first.tree)?, others.tree);
+        Ok(Read {
+            tree: node(tokens, number, from, form),
+            depth,
+            to: others.to,
+        })
+    }
+}

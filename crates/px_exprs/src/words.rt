@@ -1,0 +1,181 @@
+ghost use Rattle.std.specs.Prelude.{◌≡◌, ℕ, List, suc, pos, ◌<◌, ◌≤◌, length, codes, slice_range, Contains, IsTrue, IsFalse, IsUtf8, IfOk, MatchOption, MatchResult};
+ghost use Rattle.std.specs.Str.{chars};
+ghost use Rattle.px_lexer.specs.declared.spelling.Keyword.{Keyword};
+ghost use Rattle.px_lexer.specs.declared.spelling.Operator.{Operator};
+ghost use Rattle.px_lexer.specs.declared.spelling.Operator.TheVariants as sign;
+ghost use Rattle.px_lexer.specs.declared.token_list.TokenKind.{TokenKind};
+ghost use Rattle.px_lexer.specs.declared.token_list.TokenKind.TheVariants as kind;
+ghost use Rattle.px_exprs.specs.Terminals.{Terminal, Stands, HasKind, IsKeyword, IsOperator, IsName, IsAt};
+ghost use Rattle.px_exprs.specs.Inputs.{IsInput, terminals_of};
+ghost use Rattle.px_exprs.specs.Words.{IsOne, are_ascii, IsNamed, IsBehind};
+ghost use Rattle.px_exprs.specs.Readings.{EndsElement};
+
+use crate::readings::Unread;
+use px_base::{Chars, Sequence, Span};
+use px_lexer::{Keyword, Operator, Token, TokenKind, Tokens};
+use std::alloc::{AllocError, Global};
+
+/// The kind of the token at an index; none behind the last token.
+pub(crate) fn kind_at(tokens: &Tokens, at: usize) -> Option<&TokenKind>
+    ensures { MatchOption result ((k : TokenKind) → HasKind (terminals_of tokens.now) at k → ⊥) (λ k. HasKind (terminals_of tokens.now) at k.now) }
+{
+    match tokens.list.as_slice().get(at) {
+        Some(token) => Some(&token.kind),
+        None => None,
+    }
+}
+
+/// The operator at an index, if one stands there.
+pub(crate) fn operator_at(tokens: &Tokens, at: usize) -> Option<Operator>
+    ensures { MatchOption result ((o : Operator) → IsOperator (terminals_of tokens.now) at o → ⊥) (IsOperator (terminals_of tokens.now) at) }
+{
+    match kind_at(tokens, at) {
+        Some(TokenKind::Operator(found)) => Some(*found),
+        _ => None,
+    }
+}
+
+/// The keyword at an index, if one stands there.
+pub(crate) fn keyword_at(tokens: &Tokens, at: usize) -> Option<Keyword>
+    ensures { MatchOption result ((k : Keyword) → IsKeyword (terminals_of tokens.now) at k → ⊥) (IsKeyword (terminals_of tokens.now) at) }
+{
+    match kind_at(tokens, at) {
+        Some(TokenKind::Keyword(found)) => Some(*found),
+        _ => None,
+    }
+}
+
+/// Whether this operator stands at an index.
+pub(crate) fn is_operator(tokens: &Tokens, at: usize, operator: Operator) -> bool
+    ensures holds { IsTrue result → IsOperator (terminals_of tokens.now) at operator }
+    ensures fails { IsFalse result → IsOperator (terminals_of tokens.now) at operator → ⊥ }
+{
+    operator_at(tokens, at) == Some(operator)
+}
+
+/// Whether this keyword stands at an index.
+pub(crate) fn is_keyword(tokens: &Tokens, at: usize, keyword: Keyword) -> bool
+    ensures holds { IsTrue result → IsKeyword (terminals_of tokens.now) at keyword }
+    ensures fails { IsFalse result → IsKeyword (terminals_of tokens.now) at keyword → ⊥ }
+{
+    keyword_at(tokens, at) == Some(keyword)
+}
+
+/// The bytes that a token is spelled with.
+fn spelling<'a>(tokens: &'a Tokens, token: &Token) -> &'a [u8]
+    requires input { IsInput tokens.now }
+    requires known { Contains tokens.now.list token.now }
+    ensures { result.now ≡ slice_range tokens.now.text token.now.from token.now.to }
+{
+    &tokens.text.as_slice()[token.from as usize..token.to as usize]
+}
+
+/// The bytes of the identifier at an index, if one stands there.
+fn name_at(tokens: &Tokens, at: usize) -> Option<&[u8]>
+    requires { IsInput tokens.now }
+    ensures { MatchOption result ((name : List ℕ) → IsName (terminals_of tokens.now) at name → ⊥) (λ bytes. IsUtf8 bytes.now × IsName (terminals_of tokens.now) at (chars bytes.now)) }
+{
+    match tokens.list.as_slice().get(at) {
+        Some(token) => match token.kind {
+            TokenKind::Name => Some(spelling(tokens, token)),
+            _ => None,
+        },
+        None => None,
+    }
+}
+
+/// Whether an identifier stands at an index.
+pub(crate) fn is_name(tokens: &Tokens, at: usize) -> bool
+    ensures holds { IsTrue result → (name : List ℕ) × IsName (terminals_of tokens.now) at name }
+    ensures fails { IsFalse result → (name : List ℕ) → IsName (terminals_of tokens.now) at name → ⊥ }
+{
+    match kind_at(tokens, at) {
+        Some(TokenKind::Name) => true,
+        _ => false,
+    }
+}
+
+/// Whether the identifier with this spelling, which is ASCII, stands at an index.
+pub(crate) fn is_word(tokens: &Tokens, at: usize, word: &[u8]) -> bool
+    requires input { IsInput tokens.now }
+    requires ascii { IsTrue (are_ascii word.now) }
+    ensures holds { IsTrue result → IsName (terminals_of tokens.now) at word.now }
+    ensures fails { IsFalse result → IsName (terminals_of tokens.now) at word.now → ⊥ }
+{
+    match name_at(tokens, at) {
+        Some(found) => found == word,
+        None => false,
+    }
+}
+
+/// Whether the number that is spelled `1` stands at an index.
+pub(crate) fn is_one(tokens: &Tokens, at: usize) -> bool
+    requires { IsInput tokens.now }
+    ensures holds { IsTrue result → IsOne (terminals_of tokens.now) at }
+    ensures fails { IsFalse result → IsOne (terminals_of tokens.now) at → ⊥ }
+{
+    match tokens.list.as_slice().get(at) {
+        Some(token) => match token.kind {
+            TokenKind::Number(value) => { value == 1 && spelling(tokens, token) == b"1".as_slice() }
+            _ => false,
+        },
+        None => false,
+    }
+}
+
+/// The characters of the identifier at an index.
+///
+/// # Errors
+/// `Stuck` there where none stands; `NoMemory` where there is no memory for it.
+pub(crate) fn name(alloc: Global, tokens: &Tokens, at: usize) -> Result<Chars, Unread>
+    requires { IsInput tokens.now }
+    ensures { IsNamed (terminals_of tokens.now) at result }
+{
+    match name_at(tokens, at) {
+        Some(bytes) => Ok(characters(alloc, bytes)?),
+        None => Err(Unread::Stuck(at)),
+    }
+}
+
+/// The characters that bytes of a text are.
+fn characters(alloc: Global, bytes: &[u8]) -> Result<Chars, AllocError>
+    requires { IsUtf8 bytes.now }
+    ensures { IfOk result (λ found. found ≡ chars bytes.now) }
+{
+    let Ok(text) = str::from_utf8(bytes) else {
+        unreachable!()
+    };
+    let found = text.chars().collect(alloc)?;
+    Ok(Sequence::from_vec(found))
+}
+
+/// The index behind this operator, which stands at an index.
+///
+/// # Errors
+/// `Stuck` there where it doesn't.
+pub(crate) fn behind(tokens: &Tokens, at: usize, operator: Operator) -> Result<usize, Unread>
+    requires { IsInput tokens.now }
+    ensures { IsBehind (terminals_of tokens.now) at operator result }
+{
+    if is_operator(tokens, at, operator) {
+        Ok(at + 1)
+    } else {
+        Err(Unread::Stuck(at))
+    }
+}
+
+/// Whether a comma or this closing bracket stands at an index.
+pub(crate) fn ends_element(tokens: &Tokens, at: usize, closing: Operator) -> bool
+    ensures holds { IsTrue result → EndsElement closing (terminals_of tokens.now) at }
+    ensures fails { IsFalse result → EndsElement closing (terminals_of tokens.now) at → ⊥ }
+{
+    is_operator(tokens, at, Operator::Comma) || is_operator(tokens, at, closing)
+}
+
+/// The place of the token at an index.
+pub(crate) fn place(tokens: &Tokens, at: usize) -> Span
+    requires { at < length tokens.now.list }
+    ensures { IsAt (terminals_of tokens.now) at result }
+{
+    tokens.list.as_slice()[at].at
+}
