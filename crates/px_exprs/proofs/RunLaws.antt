@@ -10,7 +10,7 @@ use Rattle.px_exprs.specs.Codes.{stop_at, Past}
 use Rattle.px_exprs.specs.Grammar.{IsExpr}
 use Rattle.px_exprs.specs.Laws.{ReadingsAreUnique}
 use Rattle.px_exprs.specs.Readings.{Agree, HasWay, HasShallow, IsReached, IsStuck, IsOver, IsReading}
-use Rattle.px_exprs.specs.Runs.{Begins, IsRun, nesting_limit, IsTooDeep, IsNestedTooDeep, IsNoExpression, IsRead, IsRefusalAt, IsExpressionRefused}
+use Rattle.px_exprs.specs.Runs.{Begins, IsRun, IsTooDeep, IsNestedTooDeep, IsNoExpression, IsRead, IsRefusalAt, IsExpressionRefused}
 use Rattle.px_exprs.proofs.Agreement.{agree_same, agree_carried, agree_front, agree_take}
 use Rattle.px_exprs.proofs.Codes.{code_past, one_token}
 use Rattle.px_exprs.proofs.GoingOn.{expr_goes_on}
@@ -73,31 +73,31 @@ none_stuck ts from room k stuck us agree f c q lt = stuck.none us agree f c (len
 
 -- Where tokens go on without too deep a nesting, none of them shows one
 
-shallow_before : (ts : List Terminal) (from k i : ℕ) → HasShallow IsExpr ts from k nesting_limit → i < k → IsTooDeep ts from i → ⊥
-shallow_before ts from k i h lt deep =
+shallow_before : (limit : ℕ) (ts : List Terminal) (from k i : ℕ) → HasShallow IsExpr ts from k limit → i < k → IsTooDeep limit ts from i → ⊥
+shallow_before limit ts from k i h lt deep =
     let way = h.way in
     let more = drop (suc i) way.tokens in
     let is : way.tokens ≡ take (suc i) ts ++ more = front_and_more (suc i) way.tokens ts (agree_carried _ _ way.same (omega (arith, lt))) (omega (arith, lt, way.long)) in
     omega (arith, h.shallow, deep.deep more way.tree way.depth (subst (λ us. IsExpr us from way.tree way.depth (length us)) is way.derived))
 
-reached_before : (ts : List Terminal) (from k i : ℕ) → IsReached IsExpr ts from k nesting_limit → i < k → IsTooDeep ts from i → ⊥
-reached_before ts from k i (IsReached.reached h) lt deep = shallow_before ts from k i h lt deep
-reached_before ts from k i (IsReached.behind_sizeof n e forward counted h way) lt deep =
-    elim (earlier i n (omega (arith, e, lt))) [ inl a ↦ shallow_before ts from n i h a deep | inr same ↦ deep.counted (subst (λ x. IsKeyword ts x word.Sizeof) (sym same) counted) ]
+reached_before : (limit : ℕ) (ts : List Terminal) (from k i : ℕ) → IsReached IsExpr ts from k limit → i < k → IsTooDeep limit ts from i → ⊥
+reached_before limit ts from k i (IsReached.reached h) lt deep = shallow_before limit ts from k i h lt deep
+reached_before limit ts from k i (IsReached.behind_sizeof n e forward counted h way) lt deep =
+    elim (earlier i n (omega (arith, e, lt))) [ inl a ↦ shallow_before limit ts from n i h a deep | inr same ↦ deep.counted (subst (λ x. IsKeyword ts x word.Sizeof) (sym same) counted) ]
 
-reached_begins : (ts : List Terminal) (from k : ℕ) → IsReached IsExpr ts from k nesting_limit → Begins (take k ts) from
-reached_begins ts from k (IsReached.reached h) = begins_of ts from k h.way
-reached_begins ts from k (IsReached.behind_sizeof n e forward counted h way) = begins_of ts from k way
+reached_begins : (limit : ℕ) (ts : List Terminal) (from k : ℕ) → IsReached IsExpr ts from k limit → Begins (take k ts) from
+reached_begins limit ts from k (IsReached.reached h) = begins_of ts from k h.way
+reached_begins limit ts from k (IsReached.behind_sizeof n e forward counted h way) = begins_of ts from k way
 
 -- behind the run no token shows too deep a nesting
-deep_inside : (ts : List Terminal) (from to i : ℕ) → IsRun ts from to → IsTooDeep ts from i → i < to
-deep_inside ts from to i run deep =
+deep_inside : (limit : ℕ) (ts : List Terminal) (from to i : ℕ) → IsRun ts from to → IsTooDeep limit ts from i → i < to
+deep_inside limit ts from to i run deep =
     elim (nat_order i to) [ inl a ↦ a | inr le ↦ absurd (run.longest (suc i) (omega (arith, le)) (omega (arith, deep.within)) deep.begins) ]
 
 -- What the reader answers
 
-pub run_read : (ts : List Terminal) (from to depth : ℕ) (e : Expr) → IsReading IsExpr (Past 26) ts from nesting_limit e depth to → IsRead ts from e to
-run_read ts from to depth e reading =
+pub run_read : (limit : ℕ) (ts : List Terminal) (from to depth : ℕ) (e : Expr) → IsReading IsExpr (Past 26) ts from limit e depth to → IsRead limit ts from e to
+run_read limit ts from to depth e reading =
     let there = expr_carried {us = take to ts} to (agree_front to ts) reading.derived in
     let long = length-take-le to ts (omega (arith, reading.within)) in
     record {
@@ -119,33 +119,33 @@ run_read ts from to depth e reading =
       shallow = reading.shallow;
     }
 
-pub run_stuck : (ts : List Terminal) (from k : ℕ) → IsStuck IsExpr (Past 26) ts from nesting_limit k → IsNoExpression ts from k
-run_stuck ts from k stuck =
-    let longest = longest_from ts from k (none_stuck ts from nesting_limit k stuck) in
-    let run : IsRun ts from k = record { forward = stuck.forward; within = omega (arith, stuck.within); begins = reached_begins ts from k stuck.reached; longest = longest } in
+pub run_stuck : (limit : ℕ) (ts : List Terminal) (from k : ℕ) → IsStuck IsExpr (Past 26) ts from limit k → IsNoExpression limit ts from k
+run_stuck limit ts from k stuck =
+    let longest = longest_from ts from k (none_stuck ts from limit k stuck) in
+    let run : IsRun ts from k = record { forward = stuck.forward; within = omega (arith, stuck.within); begins = reached_begins limit ts from k stuck.reached; longest = longest } in
     record {
       run = run;
       none = λ e depth p. no_end e depth p;
-      shallow = λ i deep. reached_before ts from k i stuck.reached (deep_inside ts from k i run deep) deep;
+      shallow = λ i deep. reached_before limit ts from k i stuck.reached (deep_inside limit ts from k i run deep) deep;
     }
   where
     -- a token behind an expression that doesn't end it goes on with it
     no_end : (e : Expr) (depth : ℕ) → IsExpr ts from e depth k → ⊥
     no_end e depth p =
         elim (nat_order (stop_at ts k) 26) [
-          | inl lt ↦ longest_from ts from k (none_stuck ts from nesting_limit k stuck) (suc k) (omega arith) (omega (arith, stuck.within)) (begins_of ts from (suc k) (expr_goes_on ts p lt))
+          | inl lt ↦ longest_from ts from k (none_stuck ts from limit k stuck) (suc k) (omega arith) (omega (arith, stuck.within)) (begins_of ts from (suc k) (expr_goes_on ts p lt))
           | inr le ↦ stuck.none ts (agree_same ts) e depth k p le
         ]
 
-pub run_over : (ts : List Terminal) (from k : ℕ) → IsOver IsExpr (Past 26) ts from nesting_limit k → IsNestedTooDeep ts from k
-run_over ts from k over = record {
+pub run_over : (limit : ℕ) (ts : List Terminal) (from k : ℕ) → IsOver IsExpr (Past 26) ts from limit k → IsNestedTooDeep limit ts from k
+run_over limit ts from k over = record {
   deep = record {
     within = over.within;
     begins = begins_of ts from (suc k) over.way;
     counted = over.counted;
     deep = λ more e depth p. over.deep (take (suc k) ts ++ more) (agree_take (suc k) ts more (omega (arith, over.within))) e depth (length (take (suc k) ts ++ more)) p (past_end (take (suc k) ts ++ more));
   };
-  first = λ i lt deep. reached_before ts from k i over.reached lt deep;
+  first = λ i lt deep. reached_before limit ts from k i over.reached lt deep;
 }
 
 -- The tokens are read in one way
@@ -157,8 +157,8 @@ one_run : (ts : List Terminal) (from to other : ℕ) → IsRun ts from to → Is
 one_run ts from to other run rival =
     elim (nat_order to other) [ inl lt ↦ absurd (runs_end ts from to other run rival lt) | inr le ↦ elim (nat_order other to) [ inl lt ↦ absurd (runs_end ts from other to rival run lt) | inr ge ↦ omega (arith, le, ge) ] ]
 
-one_depth : (ts : List Terminal) (from k other : ℕ) → IsNestedTooDeep ts from k → IsNestedTooDeep ts from other → k ≡ other
-one_depth ts from k other deep rival =
+one_depth : (limit : ℕ) (ts : List Terminal) (from k other : ℕ) → IsNestedTooDeep limit ts from k → IsNestedTooDeep limit ts from other → k ≡ other
+one_depth limit ts from k other deep rival =
     elim (nat_order k other) [ inl lt ↦ absurd (rival.first k lt deep.deep) | inr le ↦ elim (nat_order other k) [ inl lt ↦ absurd (deep.first other lt rival.deep) | inr ge ↦ omega (arith, le, ge) ] ]
 
 one_refusal : (ts : List Terminal) (number k l : ℕ) (refusal other : Refusal) → k ≡ l → IsRefusalAt ts number k refusal → IsRefusalAt ts number l other → refusal ≡ other
@@ -166,8 +166,8 @@ one_refusal ts number k l refusal other e r s =
     let same = one_token ts l r.token s.token (subst (λ x. slice_get ts x ≡ Some r.token) e r.stands) s.stands in
     r.refused ∙ ap (λ (t : Terminal). record { number = number; line = t.at.line; column = t.at.column }) same ∙ sym s.refused
 
-read_deep : (ts : List Terminal) (from to k : ℕ) (e : Expr) → IsRead ts from e to → IsTooDeep ts from k → ⊥
-read_deep ts from to k e read deep = shallow_before ts from to k (record {
+read_deep : (limit : ℕ) (ts : List Terminal) (from to k : ℕ) (e : Expr) → IsRead limit ts from e to → IsTooDeep limit ts from k → ⊥
+read_deep limit ts from to k e read deep = shallow_before limit ts from to k (record {
   way = record {
     tokens = take to ts;
     same = agree_front to ts;
@@ -177,28 +177,28 @@ read_deep ts from to k e read deep = shallow_before ts from to k (record {
     derived = subst (λ x. IsExpr (take to ts) from e read.depth x) (sym long) ((expr_carried {us = take to ts} to (agree_front to ts) read.derived).1 (omega arith));
   };
   shallow = read.shallow;
-}) (deep_inside ts from to k read.run deep) deep
+}) (deep_inside limit ts from to k read.run deep) deep
   where
     long : length (take to ts) ≡ to
     long = length-take-le to ts read.run.within
 
 pub readings_unique : ReadingsAreUnique
 readings_unique = record {
-  read = λ ts from to other_to e other r s. one_reading ts from to other_to e other r s (one_run ts from to other_to r.run s.run);
-  refused = λ ts from refusal other r s. one_way ts from refusal other r s;
-  either = λ ts from to e refusal r s. not_both ts from to e refusal r s;
+  read = λ limit ts from to other_to e other r s. one_reading limit ts from to other_to e other r s (one_run ts from to other_to r.run s.run);
+  refused = λ limit ts from refusal other r s. one_way limit ts from refusal other r s;
+  either = λ limit ts from to e refusal r s. not_both limit ts from to e refusal r s;
 }
   where
-    one_reading : (ts : List Terminal) (from to other_to : ℕ) (e other : Expr) → IsRead ts from e to → IsRead ts from other other_to → to ≡ other_to → (e ≡ other) × (to ≡ other_to)
-    one_reading ts from to other_to e other r s same =
+    one_reading : (limit : ℕ) (ts : List Terminal) (from to other_to : ℕ) (e other : Expr) → IsRead limit ts from e to → IsRead limit ts from other other_to → to ≡ other_to → (e ≡ other) × (to ≡ other_to)
+    one_reading limit ts from to other_to e other r s same =
         ((expressions_unique ts from other_to e other r.depth s.depth (subst (λ x. IsExpr ts from e r.depth x) same r.derived) s.derived).0, same)
 
-    one_way : (ts : List Terminal) (from : ℕ) (refusal other : Refusal) → IsExpressionRefused ts from refusal → IsExpressionRefused ts from other → refusal ≡ other
-    one_way ts from refusal other (IsExpressionRefused.no_expression k n r) (IsExpressionRefused.no_expression l m s) = one_refusal ts 5 k l refusal other (one_run ts from k l n.run m.run) r s
-    one_way ts from refusal other (IsExpressionRefused.no_expression k n r) (IsExpressionRefused.nested_too_deep l m s) = absurd (n.shallow l m.deep)
-    one_way ts from refusal other (IsExpressionRefused.nested_too_deep k n r) (IsExpressionRefused.no_expression l m s) = absurd (m.shallow k n.deep)
-    one_way ts from refusal other (IsExpressionRefused.nested_too_deep k n r) (IsExpressionRefused.nested_too_deep l m s) = one_refusal ts 6 k l refusal other (one_depth ts from k l n m) r s
+    one_way : (limit : ℕ) (ts : List Terminal) (from : ℕ) (refusal other : Refusal) → IsExpressionRefused limit ts from refusal → IsExpressionRefused limit ts from other → refusal ≡ other
+    one_way limit ts from refusal other (IsExpressionRefused.no_expression k n r) (IsExpressionRefused.no_expression l m s) = one_refusal ts 5 k l refusal other (one_run ts from k l n.run m.run) r s
+    one_way limit ts from refusal other (IsExpressionRefused.no_expression k n r) (IsExpressionRefused.nested_too_deep l m s) = absurd (n.shallow l m.deep)
+    one_way limit ts from refusal other (IsExpressionRefused.nested_too_deep k n r) (IsExpressionRefused.no_expression l m s) = absurd (m.shallow k n.deep)
+    one_way limit ts from refusal other (IsExpressionRefused.nested_too_deep k n r) (IsExpressionRefused.nested_too_deep l m s) = one_refusal ts 6 k l refusal other (one_depth limit ts from k l n m) r s
 
-    not_both : (ts : List Terminal) (from to : ℕ) (e : Expr) (refusal : Refusal) → IsRead ts from e to → IsExpressionRefused ts from refusal → ⊥
-    not_both ts from to e refusal r (IsExpressionRefused.no_expression k n s) = n.none e r.depth (subst (λ x. IsExpr ts from e r.depth x) (one_run ts from to k r.run n.run) r.derived)
-    not_both ts from to e refusal r (IsExpressionRefused.nested_too_deep k n s) = read_deep ts from to k e r n.deep
+    not_both : (limit : ℕ) (ts : List Terminal) (from to : ℕ) (e : Expr) (refusal : Refusal) → IsRead limit ts from e to → IsExpressionRefused limit ts from refusal → ⊥
+    not_both limit ts from to e refusal r (IsExpressionRefused.no_expression k n s) = n.none e r.depth (subst (λ x. IsExpr ts from e r.depth x) (one_run ts from to k r.run n.run) r.derived)
+    not_both limit ts from to e refusal r (IsExpressionRefused.nested_too_deep k n s) = read_deep limit ts from to k e r n.deep

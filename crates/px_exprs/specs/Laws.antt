@@ -24,11 +24,11 @@ abbrev pub NodeNumbersAreDistinct : Type 0
 NodeNumbersAreDistinct =
     (ts : List Terminal) (from to : ℕ) (e : Expr) (depth : ℕ) → IsExpr ts from e depth to → All (λ n. (from ≤ n) × (n < to)) (node_numbers e) × AreDistinct (node_numbers e)
 
--- From an index on the tokens are read in one way at most: as an expression, or with a refusal.
+-- From an index on, where so much nesting is allowed, the tokens are read in one way at most: as an expression, or with a refusal.
 pub record ReadingsAreUnique : Type 0 where
-  pub read : (ts : List Terminal) (from to other_to : ℕ) (e other : Expr) → IsRead ts from e to → IsRead ts from other other_to → (e ≡ other) × (to ≡ other_to)
-  pub refused : (ts : List Terminal) (from : ℕ) (refusal other : Refusal) → IsExpressionRefused ts from refusal → IsExpressionRefused ts from other → refusal ≡ other
-  pub either : (ts : List Terminal) (from to : ℕ) (e : Expr) (refusal : Refusal) → IsRead ts from e to → IsExpressionRefused ts from refusal → ⊥
+  pub read : (limit : ℕ) (ts : List Terminal) (from to other_to : ℕ) (e other : Expr) → IsRead limit ts from e to → IsRead limit ts from other other_to → (e ≡ other) × (to ≡ other_to)
+  pub refused : (limit : ℕ) (ts : List Terminal) (from : ℕ) (refusal other : Refusal) → IsExpressionRefused limit ts from refusal → IsExpressionRefused limit ts from other → refusal ≡ other
+  pub either : (limit : ℕ) (ts : List Terminal) (from to : ℕ) (e : Expr) (refusal : Refusal) → IsRead limit ts from e to → IsExpressionRefused limit ts from refusal → ⊥
 
 -- the places, names, numbers and strings of an expression are those of its tokens
 abbrev pub MarksAreOfTokens : Type 0

@@ -2,11 +2,12 @@
 mod atoms;
 mod chains;
 mod nesting;
+mod plain;
 mod starts;
 mod trailers;
 mod typings;
 
-use crate::reader::expression;
+use crate::reader::{expression, expression_within};
 use px_base::{Bytes, Refusal, Trouble};
 use px_lexer::lexing::tokens;
 use px_tree::{Expr, ExprForm};
@@ -288,5 +289,38 @@ fn reads_from_an_index(rt: HostRuntime) -> Result<(), Fail> {
         }
     }
     assert_eq!(rt; wrong.as_str(), "");
+    Ok(())
+}
+
+/// The index behind the expression of a text, within a limit of its nesting.
+fn read_within(alloc: Global, text: &[u8], limit: usize) -> Result<usize, Trouble> {
+    let found = tokens(alloc, text)?;
+    if found.list.is_empty() || limit > 64 {
+        return Err(Trouble::Refused(NOWHERE));
+    }
+    let (_tree, to) = expression_within(alloc, &found, limit, 0)?;
+    Ok(to)
+}
+
+#[test]
+fn keeps_a_lower_limit(rt: HostRuntime) -> Result<(), Fail> {
+    let at_second = Refusal {
+        number: 6,
+        line: 1,
+        column: 2,
+    };
+    assert_eq!(rt; read_within(rt.alloc(), b"((a))", 2), Ok(5));
+    assert_eq!(rt;
+        read_within(rt.alloc(), b"((a))", 1),
+        Err(Trouble::Refused(at_second))
+    );
+    assert_eq!(rt;
+        read_within(rt.alloc(), b"a.b + c", 0),
+        Err(Trouble::Refused(Refusal {
+            number: 6,
+            line: 1,
+            column: 5,
+        }))
+    );
     Ok(())
 }
