@@ -29,11 +29,11 @@ use Rattle.px_exprs.specs.Inputs.{terminals_of, IsInput}
 
 -- Parts of lists
 
-all_left : {A : Type 0} (P : A → Type 0) (xs ys : List A) → All P (xs ++ ys) → All P xs
+pub all_left : {A : Type 0} (P : A → Type 0) (xs ys : List A) → All P (xs ++ ys) → All P xs
 all_left P [] ys a = All-nil P
 all_left P (x ∷ xs) ys a = All-cons P x xs (All-head P x (xs ++ ys) a) (all_left P xs ys (All-tail P x (xs ++ ys) a))
 
-all_right : {A : Type 0} (P : A → Type 0) (xs ys : List A) → All P (xs ++ ys) → All P ys
+pub all_right : {A : Type 0} (P : A → Type 0) (xs ys : List A) → All P (xs ++ ys) → All P ys
 all_right P [] ys a = a
 all_right P (x ∷ xs) ys a = all_right P xs ys (All-tail P x (xs ++ ys) a)
 
@@ -77,7 +77,7 @@ unfolding utf8_valid_len
 front_read bytes = valid_front bytes (length bytes)
 
 -- bytes that can all be read are those of their characters
-record AreBytesOf (cs whole : List ℕ) : Type 0 where
+pub record AreBytesOf (cs whole : List ℕ) : Type 0 where
   pub bytes : encode_utf8_all cs ≡ whole
   pub scalars : all_scalars cs ≡ true
 
@@ -99,7 +99,7 @@ all_read bytes readable = elim (cases_lt (utf8_valid_len bytes) (length bytes)) 
       )
 ]
 
-text_read : (text : List ℕ) → (Contains (characters text) unreadable → ⊥) → AreBytesOf (characters text) (drop (mark_len text) text)
+pub text_read : (text : List ℕ) → (Contains (characters text) unreadable → ⊥) → AreBytesOf (characters text) (drop (mark_len text) text)
 unfolding characters
 text_read text readable = all_read (drop (mark_len text) text) readable
 
@@ -107,24 +107,24 @@ mark_inside : (text : List ℕ) → mark_len text ≤ length text
 mark_inside text =
     cond_both (starts_with nat_eq text (0xEF ∷ 0xBB ∷ 0xBF ∷ [])) 3 0 (λ n. n ≤ length text) (λ starts. starts_fits text (0xEF ∷ 0xBB ∷ 0xBF ∷ []) starts) (λ _. omega arith)
 
-abbrev bytes_len : List ℕ → ℕ
+abbrev pub bytes_len : List ℕ → ℕ
 bytes_len cs = length (encode_utf8_all cs)
 
 bytes_len-append : (cs ds : List ℕ) → bytes_len (cs ++ ds) ≡ bytes_len cs + bytes_len ds
 bytes_len-append cs ds = ap length (encodes-append cs ds) ∙ length-append (encode_utf8_all cs) (encode_utf8_all ds)
 
 -- the characters from one index to before another
-abbrev part : List ℕ → ℕ → ℕ → List ℕ
+abbrev pub part : List ℕ → ℕ → ℕ → List ℕ
 part cs i j = take (j - i) (drop i cs)
 
-byte_further : (text : List ℕ) (i j : ℕ) → i ≤ j → byte_of text j ≡ byte_of text i + bytes_len (part (characters text) i j)
+pub byte_further : (text : List ℕ) (i j : ℕ) → i ≤ j → byte_of text j ≡ byte_of text i + bytes_len (part (characters text) i j)
 byte_further text i j le =
     let cs = characters text in
     let whole : i + (j - i) ≡ j = omega arith in
     let front : take j cs ≡ take i cs ++ part cs i j = ap (λ n. take n cs) (sym whole) ∙ take-add i (j - i) cs in
     omega (arith, ap bytes_len front, bytes_len-append (take i cs) (part cs i j))
 
-byte_inside : (text : List ℕ) (i : ℕ) → AreBytesOf (characters text) (drop (mark_len text) text) → byte_of text i ≤ length text
+pub byte_inside : (text : List ℕ) (i : ℕ) → AreBytesOf (characters text) (drop (mark_len text) text) → byte_of text i ≤ length text
 byte_inside text i read =
     let cs = characters text in
     let whole : bytes_len cs ≡ length text - mark_len text = ap length read.bytes ∙ length-drop (mark_len text) text in
@@ -153,7 +153,7 @@ scalars_between cs i j e =
 -- Places of tokens
 
 -- a token from one character to before another
-record IsPlaced (text : List ℕ) (token : Token) : Type 0 where
+pub record IsPlaced (text : List ℕ) (token : Token) : Type 0 where
   pub first : ℕ
   pub last : ℕ
   pub forward : first ≤ last
@@ -161,14 +161,14 @@ record IsPlaced (text : List ℕ) (token : Token) : Type 0 where
   pub begins : token.from ≡ byte_of text first
   pub ends : token.to ≡ byte_of text last
 
-placed_at : (text : List ℕ) (i j : ℕ) (k : TokenKind) → i ≤ j → j ≤ length (characters text) → IsPlaced text (token_at text i j k)
+pub placed_at : (text : List ℕ) (i j : ℕ) (k : TokenKind) → i ≤ j → j ≤ length (characters text) → IsPlaced text (token_at text i j k)
 placed_at text i j k le inside = record { first = i; last = j; forward = le; inside = inside; begins = refl; ends = refl }
 
 -- a piece of so many characters
-abbrev IsInside : ℕ → Piece → Type 0
+abbrev pub IsInside : ℕ → Piece → Type 0
 IsInside n p = (p.from ≤ p.to) × (p.to ≤ n)
 
-pieces_inside : (cs : List ℕ) (from to : ℕ) (ps : List Piece) → AreBetween cs from ps to → All (IsInside to) ps
+pub pieces_inside : (cs : List ℕ) (from to : ℕ) (ps : List Piece) → AreBetween cs from ps to → All (IsInside to) ps
 pieces_inside cs from to [] a = All-nil (IsInside to)
 pieces_inside cs from to (p ∷ ps) a = All-cons (IsInside to) p ps (omega (arith, a.1.forward), between_forward cs p.to to ps a.2) (pieces_inside cs p.to to ps a.2)
 

@@ -19,7 +19,7 @@ use Rattle.px_exprs.proofs.Stops.{past_from, past_carried}
 use Rattle.px_exprs.proofs.Uniqueness.{expr_only, expressions_unique}
 
 -- a list that has the first k tokens is these and more
-front_and_more : (k : ℕ) (us ts : List Terminal) → Agree k us ts → k ≤ length us → us ≡ take k ts ++ drop k us
+pub front_and_more : (k : ℕ) (us ts : List Terminal) → Agree k us ts → k ≤ length us → us ≡ take k ts ++ drop k us
 front_and_more zero us ts agree le = refl
 front_and_more (suc k) [] ts agree le = absurd (omega (arith, le))
 front_and_more (suc k) (u ∷ us) [] agree le = let e = agree 0 (omega arith) in absurd cc
@@ -42,12 +42,12 @@ begins_of ts from k way =
 front_long : (k : ℕ) (ts more : List Terminal) → k ≤ length ts → k ≤ length (take k ts ++ more)
 front_long k ts more within = omega (arith, length-append (take k ts) more, length-take-le k ts within)
 
-nat_order : (i n : ℕ) → (i < n) ⊎ (n ≤ i)
+pub nat_order : (i n : ℕ) → (i < n) ⊎ (n ≤ i)
 nat_order i zero = inr (omega arith)
 nat_order zero (suc n) = inl (omega arith)
 nat_order (suc i) (suc n) = elim (nat_order i n) [ inl a ↦ inl (omega (arith, a)) | inr a ↦ inr (omega (arith, a)) ]
 
-earlier : (i n : ℕ) → i < suc n → (i < n) ⊎ (i ≡ n)
+pub earlier : (i n : ℕ) → i < suc n → (i < n) ⊎ (i ≡ n)
 earlier zero zero lt = inr refl
 earlier zero (suc n) lt = inl (omega arith)
 earlier (suc i) zero lt = absurd (omega (arith, lt))

@@ -2,7 +2,7 @@
 
 ghost use Rattle.std.specs.Prelude.{◌<◌, length};
 ghost use Rattle.px_exprs.specs.Codes.{Past};
-ghost use Rattle.px_exprs.specs.Grammar.{IsExpr};
+ghost use Rattle.px_exprs.specs.Grammar.{IsExpr, IsPrimary};
 ghost use Rattle.px_exprs.specs.Inputs.{IsInput, terminals_of};
 ghost use Rattle.px_exprs.specs.Readings.{Reads};
 
@@ -25,12 +25,7 @@ pub(crate) struct Grammar<F> {
 ///
 /// # Errors
 /// `Stuck` or `TooDeep` at the first such token; `NoMemory` where there is no memory for the tree.
-pub(crate) fn expr(
-    alloc: Global,
-    tokens: &Tokens,
-    room: usize,
-    from: usize,
-) -> Result<Read<Expr>, Unread>
+pub fn expr(alloc: Global, tokens: &Tokens, room: usize, from: usize) -> Result<Read<Expr>, Unread>
     requires input { IsInput tokens.now }
     requires inside { from < length tokens.now.list }
     ensures { Reads IsExpr (Past 26) (terminals_of tokens.now) from room result }
@@ -40,4 +35,25 @@ pub(crate) fn expr(
         nested: expr,
     }
     .conditional(tokens, room, from)
+}
+
+/// The atom from an index on with the trailers behind it, without operators before or behind it.
+///
+/// # Errors
+/// As `expr`.
+pub fn primary(
+    alloc: Global,
+    tokens: &Tokens,
+    room: usize,
+    from: usize,
+) -> Result<Read<Expr>, Unread>
+    requires input { IsInput tokens.now }
+    requires inside { from < length tokens.now.list }
+    ensures { Reads IsPrimary (Past 12) (terminals_of tokens.now) from room result }
+{
+    Grammar {
+        alloc,
+        nested: expr,
+    }
+    .primary(tokens, room, from)
 }

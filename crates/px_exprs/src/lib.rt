@@ -3,15 +3,15 @@
 
 mod atoms;
 mod chains;
-mod grammar;
+pub mod grammar;
 pub mod laws;
 mod lists;
-mod nodes;
+pub mod nodes;
 mod operators;
 pub mod reader;
-mod readings;
+pub mod readings;
 #[cfg(test)]
 mod tests;
 mod trailers;
-mod typings;
-mod words;
+pub mod typings;
+pub mod words;

@@ -13,7 +13,7 @@ use sqlite_items::{Boxed, Items};
 use std::alloc::{AllocError, Global};
 
 /// The node of this form with the number of one token, at the place of another.
-pub(crate) fn node(tokens: &Tokens, number: usize, at: usize, form: ExprForm) -> Expr
+pub fn node(tokens: &Tokens, number: usize, at: usize, form: ExprForm) -> Expr
     requires small { number < 2 ^ 32 }
     requires inside { at < length tokens.now.list }
     ensures { (span : Span) × IsAt (terminals_of tokens.now) at span × (result ≡ node_of number span form) }
@@ -26,7 +26,7 @@ pub(crate) fn node(tokens: &Tokens, number: usize, at: usize, form: ExprForm) ->
 }
 
 /// What is read of a node of this form, whose number and place are those of its first token.
-pub(crate) fn read_node(
+pub fn read_node(
     tokens: &Tokens,
     from: usize,
     form: ExprForm,
@@ -48,7 +48,7 @@ pub(crate) fn read_node(
 ///
 /// # Errors
 /// `AllocError` where there is no memory for it.
-pub(crate) fn choice(
+pub fn choice(
     alloc: Global,
     value: Expr,
     test: Expr,
@@ -66,11 +66,7 @@ pub(crate) fn choice(
 ///
 /// # Errors
 /// `AllocError` where there is no memory for them.
-pub(crate) fn joined(
-    alloc: Global,
-    first: Expr,
-    others: Items<Expr>,
-) -> Result<Items<Expr>, AllocError>
+pub fn joined(alloc: Global, first: Expr, others: Items<Expr>) -> Result<Items<Expr>, AllocError>
     ensures { IfOk result (λ all. all ≡ first ∷ others) }
 {
     let mut all = Items::new(alloc);

@@ -5,15 +5,15 @@ use std::alloc::AllocError;
 
 /// What was read: its tree, the nesting of its tokens, and the index of the token behind it.
 #[derive(Debug, Drop)]
-pub(crate) struct Read<T> {
-    pub(crate) tree: T,
-    pub(crate) depth: usize,
-    pub(crate) to: usize,
+pub struct Read<T> {
+    pub tree: T,
+    pub depth: usize,
+    pub to: usize,
 }
 
 /// Why a form wasn't read. The number is the index of a token.
 #[derive(Clone, Copy, Debug, PartialEq, Eq)]
-pub(crate) enum Unread {
+pub enum Unread {
     /// Some tokens of the form begin with those before this one, and none with this one too.
     Stuck(usize),
     /// All tokens of the form that begin with those up to this one are nested too deep.
@@ -36,7 +36,7 @@ impl From<AllocError> for Unread {
 ///
 /// # Errors
 /// `TooDeep` at the token that shows the form, where nothing is left for it.
-pub(crate) fn room_within(room: usize, depth: usize, at: usize) -> Result<usize, Unread>
+pub fn room_within(room: usize, depth: usize, at: usize) -> Result<usize, Unread>
     ensures { MatchResult result (λ left. (depth < room) × (room ≡ suc left)) (λ unread. IsTooDeepAt at unread × (room ≤ depth)) }
 {
     if depth < room {

@@ -3,7 +3,7 @@
 ghost use Rattle.std.specs.Prelude.{◌≡◌, ◌<◌, ◌≤◌, ◌⊎◌, suc, length, true, false, IsTrue, IsFalse, IfOk};
 ghost use Rattle.px_lexer.specs.declared.spelling.Operator.TheVariants as sign;
 ghost use Rattle.px_exprs.specs.Terminals.{IsOperator};
-ghost use Rattle.px_exprs.specs.Codes.{Past, code_at, word_code, sign_code, begins_code};
+ghost use Rattle.px_exprs.specs.Codes.{Past, sign_code};
 ghost use Rattle.px_exprs.specs.Grammar.{IsPrimary, AreTrailers, IsTrailer, AreArguments, IsArgument, AreItems, IsItem, MaybeExpr};
 ghost use Rattle.px_exprs.specs.Inputs.{IsInput, Nests, terminals_of};
 ghost use Rattle.px_exprs.specs.Lists.{Listed};
@@ -14,9 +14,9 @@ use crate::grammar::Grammar;
 use crate::lists::Listed;
 use crate::nodes::node;
 use crate::readings::{Read, Unread, room_within};
-use crate::words::{ends_element, is_name, is_operator, kind_at, name, operator_at};
+use crate::words::{begins_expr, ends_element, is_name, is_operator, name, operator_at};
 use px_base::Chars;
-use px_lexer::{Keyword, Operator, TokenKind, Tokens};
+use px_lexer::{Operator, Tokens};
 use px_tree::{Argument, Expr, ExprForm, Item, Trailer};
 use sqlite_items::{Boxed, Items};
 use std::alloc::{AllocError, Global};
@@ -30,53 +30,6 @@ fn begins_trailer(tokens: &Tokens, at: usize) -> bool
         Some(Operator::Point) => true,
         Some(Operator::OpenParenthesis) => true,
         Some(Operator::OpenBracket) => true,
-        _ => false,
-    }
-}
-
-/// Whether an expression begins with the token at an index.
-fn begins_expr(tokens: &Tokens, at: usize) -> bool
-    ensures { result ≡ begins_code (code_at (terminals_of tokens.now) at) }
-{
-    let Some(found) = kind_at(tokens, at) else {
-        return false;
-    };
-    match found {
-        TokenKind::Name => true,
-        TokenKind::Number(_) => true,
-        TokenKind::Text(_) => true,
-        TokenKind::Keyword(word) => begins_with_keyword(*word),
-        TokenKind::Operator(sign) => begins_with_operator(*sign),
-        _ => false,
-    }
-}
-
-/// Whether an expression begins with this keyword.
-fn begins_with_keyword(word: Keyword) -> bool
-    ensures { result ≡ begins_code (word_code word) }
-{
-    match word {
-        Keyword::False => true,
-        Keyword::None => true,
-        Keyword::True => true,
-        Keyword::Not => true,
-        Keyword::Sizeof => true,
-        _ => false,
-    }
-}
-
-/// Whether an expression begins with this operator.
-fn begins_with_operator(sign: Operator) -> bool
-    ensures { result ≡ begins_code (sign_code sign) }
-{
-    match sign {
-        Operator::Plus => true,
-        Operator::Minus => true,
-        Operator::Tilde => true,
-        Operator::Less => true,
-        Operator::OpenParenthesis => true,
-        Operator::OpenBracket => true,
-        Operator::OpenBrace => true,
         _ => false,
     }
 }

@@ -109,7 +109,7 @@ fn base_in(mut table: &[Row], tokens: &Tokens, from: usize, to: usize) -> Option
 }
 
 /// The base whose words stand from one index to before another, if there is one.
-fn base_of(tokens: &Tokens, from: usize, to: usize) -> Option<BaseType>
+pub fn base_of(tokens: &Tokens, from: usize, to: usize) -> Option<BaseType>
     requires { IsInput tokens.now }
     ensures { MatchOption result ((b : BaseType) → IsBase (terminals_of tokens.now) from b to → ⊥) (λ b. IsBase (terminals_of tokens.now) from b to) }
 {
@@ -181,7 +181,7 @@ fn axis(tokens: &Tokens, from: usize) -> Result<Read<Axis>, Unread>
 ///
 /// # Errors
 /// `Stuck` at the first token with which none begin; `NoMemory` where there is no memory for them.
-fn axes(alloc: Global, tokens: &Tokens, from: usize) -> Result<Read<Axes>, Unread>
+pub fn axes(alloc: Global, tokens: &Tokens, from: usize) -> Result<Read<Axes>, Unread>
     requires input { IsInput tokens.now }
     requires inside { from < length tokens.now.list }
     ensures { ReadsFlat AreAxes (At sign.CloseBracket) (terminals_of tokens.now) from result }
@@ -240,7 +240,7 @@ fn view(
 }
 
 /// The index behind `const` where it stands at an index, and else that index.
-fn behind_const(tokens: &Tokens, from: usize) -> usize
+pub fn behind_const(tokens: &Tokens, from: usize) -> usize
     requires { IsInput tokens.now }
     ensures { IsBehindConst (terminals_of tokens.now) from result }
 {
@@ -256,7 +256,7 @@ fn behind_const(tokens: &Tokens, from: usize) -> usize
 /// # Errors
 /// `Stuck` at the first token with which none begins; `TooDeep` at the bracket of its axes where there is no room for it;
 /// `NoMemory` where there is no memory for the axes.
-pub(crate) fn typing(
+pub fn typing(
     alloc: Global,
     tokens: &Tokens,
     room: usize,

@@ -9,6 +9,7 @@ ghost use Rattle.px_exprs.specs.Terminals.{Terminal, Stands, HasKind, IsKeyword,
 ghost use Rattle.px_exprs.specs.Inputs.{IsInput, terminals_of};
 ghost use Rattle.px_exprs.specs.Words.{IsOne, are_ascii, IsNamed, IsBehind};
 ghost use Rattle.px_exprs.specs.Readings.{EndsElement};
+ghost use Rattle.px_exprs.specs.Codes.{code_at, word_code, sign_code, begins_code};
 
 use crate::readings::Unread;
 use px_base::{Chars, Sequence, Span};
@@ -16,7 +17,7 @@ use px_lexer::{Keyword, Operator, Token, TokenKind, Tokens};
 use std::alloc::{AllocError, Global};
 
 /// The kind of the token at an index; none behind the last token.
-pub(crate) fn kind_at(tokens: &Tokens, at: usize) -> Option<&TokenKind>
+pub fn kind_at(tokens: &Tokens, at: usize) -> Option<&TokenKind>
     ensures { MatchOption result ((k : TokenKind) → HasKind (terminals_of tokens.now) at k → ⊥) (λ k. HasKind (terminals_of tokens.now) at k.now) }
 {
     match tokens.list.as_slice().get(at) {
@@ -26,7 +27,7 @@ pub(crate) fn kind_at(tokens: &Tokens, at: usize) -> Option<&TokenKind>
 }
 
 /// The operator at an index, if one stands there.
-pub(crate) fn operator_at(tokens: &Tokens, at: usize) -> Option<Operator>
+pub fn operator_at(tokens: &Tokens, at: usize) -> Option<Operator>
     ensures { MatchOption result ((o : Operator) → IsOperator (terminals_of tokens.now) at o → ⊥) (IsOperator (terminals_of tokens.now) at) }
 {
     match kind_at(tokens, at) {
@@ -36,7 +37,7 @@ pub(crate) fn operator_at(tokens: &Tokens, at: usize) -> Option<Operator>
 }
 
 /// The keyword at an index, if one stands there.
-pub(crate) fn keyword_at(tokens: &Tokens, at: usize) -> Option<Keyword>
+pub fn keyword_at(tokens: &Tokens, at: usize) -> Option<Keyword>
     ensures { MatchOption result ((k : Keyword) → IsKeyword (terminals_of tokens.now) at k → ⊥) (IsKeyword (terminals_of tokens.now) at) }
 {
     match kind_at(tokens, at) {
@@ -46,7 +47,7 @@ pub(crate) fn keyword_at(tokens: &Tokens, at: usize) -> Option<Keyword>
 }
 
 /// Whether this operator stands at an index.
-pub(crate) fn is_operator(tokens: &Tokens, at: usize, operator: Operator) -> bool
+pub fn is_operator(tokens: &Tokens, at: usize, operator: Operator) -> bool
     ensures holds { IsTrue result → IsOperator (terminals_of tokens.now) at operator }
     ensures fails { IsFalse result → IsOperator (terminals_of tokens.now) at operator → ⊥ }
 {
@@ -54,7 +55,7 @@ pub(crate) fn is_operator(tokens: &Tokens, at: usize, operator: Operator) -> boo
 }
 
 /// Whether this keyword stands at an index.
-pub(crate) fn is_keyword(tokens: &Tokens, at: usize, keyword: Keyword) -> bool
+pub fn is_keyword(tokens: &Tokens, at: usize, keyword: Keyword) -> bool
     ensures holds { IsTrue result → IsKeyword (terminals_of tokens.now) at keyword }
     ensures fails { IsFalse result → IsKeyword (terminals_of tokens.now) at keyword → ⊥ }
 {
@@ -85,7 +86,7 @@ fn name_at(tokens: &Tokens, at: usize) -> Option<&[u8]>
 }
 
 /// Whether an identifier stands at an index.
-pub(crate) fn is_name(tokens: &Tokens, at: usize) -> bool
+pub fn is_name(tokens: &Tokens, at: usize) -> bool
     ensures holds { IsTrue result → (name : List ℕ) × IsName (terminals_of tokens.now) at name }
     ensures fails { IsFalse result → (name : List ℕ) → IsName (terminals_of tokens.now) at name → ⊥ }
 {
@@ -96,7 +97,7 @@ pub(crate) fn is_name(tokens: &Tokens, at: usize) -> bool
 }
 
 /// Whether the identifier with this spelling, which is ASCII, stands at an index.
-pub(crate) fn is_word(tokens: &Tokens, at: usize, word: &[u8]) -> bool
+pub fn is_word(tokens: &Tokens, at: usize, word: &[u8]) -> bool
     requires input { IsInput tokens.now }
     requires ascii { IsTrue (are_ascii word.now) }
     ensures holds { IsTrue result → IsName (terminals_of tokens.now) at word.now }
@@ -109,7 +110,7 @@ pub(crate) fn is_word(tokens: &Tokens, at: usize, word: &[u8]) -> bool
 }
 
 /// Whether the number that is spelled `1` stands at an index.
-pub(crate) fn is_one(tokens: &Tokens, at: usize) -> bool
+pub fn is_one(tokens: &Tokens, at: usize) -> bool
     requires { IsInput tokens.now }
     ensures holds { IsTrue result → IsOne (terminals_of tokens.now) at }
     ensures fails { IsFalse result → IsOne (terminals_of tokens.now) at → ⊥ }
@@ -127,7 +128,7 @@ pub(crate) fn is_one(tokens: &Tokens, at: usize) -> bool
 ///
 /// # Errors
 /// `Stuck` there where none stands; `NoMemory` where there is no memory for it.
-pub(crate) fn name(alloc: Global, tokens: &Tokens, at: usize) -> Result<Chars, Unread>
+pub fn name(alloc: Global, tokens: &Tokens, at: usize) -> Result<Chars, Unread>
     requires { IsInput tokens.now }
     ensures { IsNamed (terminals_of tokens.now) at result }
 {
@@ -153,7 +154,7 @@ fn characters(alloc: Global, bytes: &[u8]) -> Result<Chars, AllocError>
 ///
 /// # Errors
 /// `Stuck` there where it doesn't.
-pub(crate) fn behind(tokens: &Tokens, at: usize, operator: Operator) -> Result<usize, Unread>
+pub fn behind(tokens: &Tokens, at: usize, operator: Operator) -> Result<usize, Unread>
     requires { IsInput tokens.now }
     ensures { IsBehind (terminals_of tokens.now) at operator result }
 {
@@ -165,7 +166,7 @@ pub(crate) fn behind(tokens: &Tokens, at: usize, operator: Operator) -> Result<u
 }
 
 /// Whether a comma or this closing bracket stands at an index.
-pub(crate) fn ends_element(tokens: &Tokens, at: usize, closing: Operator) -> bool
+pub fn ends_element(tokens: &Tokens, at: usize, closing: Operator) -> bool
     ensures holds { IsTrue result → EndsElement closing (terminals_of tokens.now) at }
     ensures fails { IsFalse result → EndsElement closing (terminals_of tokens.now) at → ⊥ }
 {
@@ -173,9 +174,56 @@ pub(crate) fn ends_element(tokens: &Tokens, at: usize, closing: Operator) -> boo
 }
 
 /// The place of the token at an index.
-pub(crate) fn place(tokens: &Tokens, at: usize) -> Span
+pub fn place(tokens: &Tokens, at: usize) -> Span
     requires { at < length tokens.now.list }
     ensures { IsAt (terminals_of tokens.now) at result }
 {
     tokens.list.as_slice()[at].at
+}
+
+/// Whether an expression begins with the token at an index.
+pub fn begins_expr(tokens: &Tokens, at: usize) -> bool
+    ensures { result ≡ begins_code (code_at (terminals_of tokens.now) at) }
+{
+    let Some(found) = kind_at(tokens, at) else {
+        return false;
+    };
+    match found {
+        TokenKind::Name => true,
+        TokenKind::Number(_) => true,
+        TokenKind::Text(_) => true,
+        TokenKind::Keyword(word) => begins_with_keyword(*word),
+        TokenKind::Operator(sign) => begins_with_operator(*sign),
+        _ => false,
+    }
+}
+
+/// Whether an expression begins with this keyword.
+fn begins_with_keyword(word: Keyword) -> bool
+    ensures { result ≡ begins_code (word_code word) }
+{
+    match word {
+        Keyword::False => true,
+        Keyword::None => true,
+        Keyword::True => true,
+        Keyword::Not => true,
+        Keyword::Sizeof => true,
+        _ => false,
+    }
+}
+
+/// Whether an expression begins with this operator.
+fn begins_with_operator(sign: Operator) -> bool
+    ensures { result ≡ begins_code (sign_code sign) }
+{
+    match sign {
+        Operator::Plus => true,
+        Operator::Minus => true,
+        Operator::Tilde => true,
+        Operator::Less => true,
+        Operator::OpenParenthesis => true,
+        Operator::OpenBracket => true,
+        Operator::OpenBrace => true,
+        _ => false,
+    }
 }

@@ -1,3 +1,11 @@
 pub mod Declarations
+pub mod Ends
 pub mod FirstForm
+pub mod Listings
+pub mod ModuleGrammar
+pub mod Parsing
+pub mod Parts
 pub mod Reading
+pub mod Readings
+pub mod Shapes
+pub mod StatementGrammar

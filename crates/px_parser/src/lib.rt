@@ -1,11 +1,21 @@
-//! Reads the text of a module.
+//! Reads modules: the text of the first form, and the parts of all of them from their tokens.
 #![tactic(auto)]
 
 mod cursor;
 mod declarations;
+mod exprs;
 mod first_form;
+pub mod foreign;
+pub mod imports;
+mod names;
+pub mod readings;
+pub mod simple;
 mod statements;
 mod sums;
+mod targets;
+mod typed;
+pub mod variables;
+mod words;
 
 pub use first_form::{
     FirstAtom, FirstAtoms, FirstLine, FirstLines, FirstModule, FirstSum, FirstTerm, first,

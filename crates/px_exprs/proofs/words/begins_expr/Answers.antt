@@ -6,7 +6,7 @@ use Rattle.px_lexer.specs.declared.token_list.TokenKind.TheVariants as kind
 use Rattle.px_exprs.specs.Codes.{kind_code, begins_code}
 use Rattle.px_exprs.proofs.Codes.{code_here}
 use Rattle.px_exprs.proofs.BeginningCodes.{no_code}
-use Rattle.px_exprs.proofs.trailers.begins_expr.Goals as goal
+use Rattle.px_exprs.proofs.words.begins_expr.Goals as goal
 
 pub returns-in_default : goal.returns-in_default
 returns-in_default c = sym (no_code c.in_default.ensures)
