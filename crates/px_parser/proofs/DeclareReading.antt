@@ -35,7 +35,7 @@ Variables = Typing × (List Declarator × ℕ)
 
 -- A type, and variables
 
-declared_step : (ts : List Terminal) (i room : ℕ) → Step DeclaredRead Anywhere Declared Anywhere ts i i room
+pub declared_step : (ts : List Terminal) (i room : ℕ) → Step DeclaredRead Anywhere Declared Anywhere ts i i room
 declared_step ts i room = step_alike Anywhere ts i room good_declared_read.rises alike_declared
 
 pub declared_type_refused : (ts : List Terminal) (i room : ℕ) (u : Unread) → IsUnread TypedName EndsName ts i room u → IsUnread Declared Anywhere ts i room u
@@ -73,7 +73,7 @@ declared_inside ts i j room p reading =
 
 -- A line
 
-line_step : (ts : List Terminal) (i room : ℕ) → Step (After (kind.Keyword word.Cdef) Declared) Anywhere DeclareLine Anywhere ts i i room
+pub line_step : (ts : List Terminal) (i room : ℕ) → Step (After (kind.Keyword word.Cdef) Declared) Anywhere DeclareLine Anywhere ts i i room
 unfolding DeclareLine
 line_step ts i room =
     let placed = good_placed solid_cdef_declared good_cdef_declared in
@@ -236,14 +236,14 @@ declare_parts_back mode us i t n j h = elim (h) [
   | Either.right b ↦ inl b
 ]
 
-line_whole : (ts : List Terminal) (i room : ℕ) → Step DeclareLine Anywhere Declare Nowhere ts i i room
+pub line_whole : (ts : List Terminal) (i room : ℕ) → Step DeclareLine Anywhere Declare Nowhere ts i i room
 unfolding Declare
 line_whole ts i room =
     let never : Never DeclareGroup Nowhere ts i = λ us agree mode t n j x s. s in
     let step = step_left {S = Nowhere} ts i room good_declare_line.rises never in
     record { forward = step.forward; rising = step.rising; make = step.make; split = λ mode us n f j agree sees y stop. absurd stop }
 
-group_whole : (ts : List Terminal) (i room : ℕ) → Step DeclareGroup Anywhere Declare Nowhere ts i i room
+pub group_whole : (ts : List Terminal) (i room : ℕ) → Step DeclareGroup Anywhere Declare Nowhere ts i i room
 unfolding Declare
 group_whole ts i room =
     let never : Never DeclareLine Nowhere ts i = λ us agree mode t n j x s. s in

@@ -1,12 +1,12 @@
 -- How a list is read whose elements have a separator between them, and perhaps one behind the last.
-use Rattle.std.proofs.Common.{◌≡◌, ℕ, suc, ◌≤◌, ◌<◌, List, [], ◌∷◌, ◌++◌, Option, Some, None, ◌⊎◌, inl, inr, length, take, refl, sym, ap, subst, ◌∙◌, arith}
+use Rattle.std.proofs.Common.{◌≡◌, ℕ, suc, ◌≤◌, List, [], ◌∷◌, ◌++◌, ◌⊎◌, inl, inr, length, take, refl, sym, ap, subst, ◌∙◌, arith}
 use Rattle.std.proofs.lemmas.List.{length-take-le}
 use Rattle.px_lexer.specs.declared.token_list.TokenKind.{TokenKind}
 use Rattle.px_exprs.specs.Terminals.{Terminal, HasKind}
 use Rattle.px_exprs.specs.Readings.{Stops, Agree}
 use Rattle.px_exprs.specs.Runs.{nesting_limit}
-use Rattle.px_exprs.proofs.Agreement.{agree_same, agree_back, agree_carried, agree_front}
-use Rattle.px_parser.specs.Shapes.{Mode, Shape, Token, Gives, Seq, Either, Many, Listed, Of, Before, Or, Elements}
+use Rattle.px_exprs.proofs.Agreement.{agree_same, agree_carried, agree_front}
+use Rattle.px_parser.specs.Shapes.{Mode, Shape, Gives, Either, Many, Listed, Before, Elements}
 use Rattle.px_parser.specs.Parsing.{strict, looks_before}
 use Rattle.px_parser.specs.Readings.{IsShallow, IsReached, IsStuck, IsReading, Anywhere, IsArrived}
 use Rattle.px_parser.proofs.Shapely.{Sound, IsRising, sound_many, sound_before, rises_many, rises_before, rises_listed}

@@ -1,5 +1,5 @@
 -- What a reader of expressions or types within the limit answers says the same of them as a shape.
-use Rattle.std.proofs.Common.{◌≡◌, ℕ, suc, ◌≤◌, ◌<◌, List, refl, arith}
+use Rattle.std.proofs.Common.{ℕ, suc, ◌≤◌, ◌<◌, List, arith}
 use Rattle.px_exprs.specs.declared.readings.Unread.{Unread}
 use Rattle.px_exprs.specs.declared.readings.Unread.TheVariants as unread
 use Rattle.px_lexer.specs.declared.token_list.TokenKind.TheVariants as kind

@@ -1,17 +1,14 @@
 -- From one index on a form is read in one way at most, in all lists that agree up to the token behind it.
-use Rattle.std.proofs.Common.{◌≡◌, ℕ, zero, suc, ◌+◌, ◌≤◌, ◌<◌, List, [], ◌∷◌, ◌++◌, Option, Some, None, length, refl, sym, ap, ap₂, subst, ◌∙◌, arith}
-use Rattle.std.specs.Prelude.{slice_get}
-use Rattle.px_base.specs.declared.refusals.Span.{Span}
+use Rattle.std.proofs.Common.{◌≡◌, ℕ, suc, ◌≤◌, ◌<◌, List, [], ◌∷◌, Some, None, refl, sym, ap, ap₂, subst, ◌∙◌, arith}
 use Rattle.px_lexer.specs.declared.token_list.TokenKind.{TokenKind}
-use Rattle.px_lexer.specs.declared.token_list.TokenKind.TheVariants as kind
-use Rattle.px_exprs.specs.Terminals.{Terminal, HasKind, IsName, IsAt, Stands}
+use Rattle.px_exprs.specs.Terminals.{Terminal, HasKind}
 use Rattle.px_exprs.specs.Readings.{Form, Stops, Agree}
-use Rattle.px_exprs.proofs.Agreement.{agree_same, agree_back, agree_through, agree_carried, agree_append}
-use Rattle.px_exprs.proofs.Keeping.{kind_carried, name_carried, place_carried}
-use Rattle.px_exprs.proofs.Codes.{one_kind, one_name, one_place}
-use Rattle.px_parser.specs.Shapes.{Mode, Shape, Token, Name, Soft, Here, Place, Placed, Gives, Then, Seq, Either, Many, Listed, Of, After, Before, Or, Maybe, Several, Separated, Elements, Nested}
+use Rattle.px_exprs.proofs.Agreement.{agree_back, agree_carried}
+use Rattle.px_exprs.proofs.Keeping.{name_carried, place_carried}
+use Rattle.px_exprs.proofs.Codes.{one_name, one_place}
+use Rattle.px_parser.specs.Shapes.{Mode, Shape, Token, Name, Soft, Here, Placed, Gives, Then, Seq, Either, Many, Listed, Of, After, Before, Or, Maybe, Nested}
 use Rattle.px_parser.specs.Readings.{Anywhere}
-use Rattle.px_parser.proofs.Shapely.{Sound, Solid, sound_token, sound_then, sound_seq, sound_many, sound_gives, sound_listed, sound_of}
+use Rattle.px_parser.proofs.Shapely.{Sound, Solid, sound_token, sound_many, sound_gives, sound_listed, sound_of}
 
 -- What a form begins with
 

@@ -1,15 +1,13 @@
 -- What holds of each shape of the grammar: a form hangs on its own tokens alone, holds with more room too, and can begin wherever
 -- the tokens end.
-use Rattle.std.proofs.Common.{◌≡◌, ℕ, zero, suc, ◌+◌, ◌≤◌, ◌<◌, List, [], ◌∷◌, ◌++◌, Option, Some, None, length, refl, sym, ap, subst, ◌∙◌, arith, length-append, codes}
-use Rattle.std.specs.Prelude.{slice_get}
-use Rattle.px_base.specs.declared.refusals.Span.{Span}
+use Rattle.std.proofs.Common.{◌≡◌, ℕ, zero, suc, ◌≤◌, ◌<◌, List, [], ◌∷◌, ◌++◌, Some, None, length, refl, arith, length-append, codes}
 use Rattle.px_lexer.specs.declared.token_list.TokenKind.{TokenKind}
 use Rattle.px_lexer.specs.declared.token_list.TokenKind.TheVariants as kind
-use Rattle.px_exprs.specs.Terminals.{Terminal, HasKind, IsName, IsAt, Stands}
+use Rattle.px_exprs.specs.Terminals.{Terminal, Stands}
 use Rattle.px_exprs.specs.Readings.{Form, Agree}
-use Rattle.px_exprs.proofs.Agreement.{agree_same, agree_back, agree_through, agree_carried, agree_append}
+use Rattle.px_exprs.proofs.Agreement.{agree_same, agree_through, agree_carried, agree_append}
 use Rattle.px_exprs.proofs.Keeping.{kind_carried, name_carried, place_carried}
-use Rattle.px_parser.specs.Shapes.{Mode, Shape, Token, Name, Soft, Here, Place, Placed, Gives, Then, Seq, Either, Many, Listed, Of, After, Before, Or, Maybe, Several, Separated, Elements, Nested}
+use Rattle.px_parser.specs.Shapes.{Mode, Shape, Token, Name, Soft, Here, Placed, Gives, Then, Seq, Either, Many, Listed, Of, After, Before, Or, Maybe, Several, Separated, Elements, Nested}
 
 -- Tokens behind which a list ends
 

@@ -1,19 +1,17 @@
 -- How the reading of a part tells of the whole: where a part is refused, the whole is.
-use Rattle.std.proofs.Common.{◌≡◌, ℕ, zero, suc, ◌+◌, ◌≤◌, ◌<◌, max, List, [], ◌∷◌, ◌++◌, Option, Some, None, ◌⊎◌, inl, inr, length, take, refl, sym, ap, subst, ◌∙◌, arith}
+use Rattle.std.proofs.Common.{◌≡◌, ℕ, zero, suc, ◌≤◌, ◌<◌, max, List, [], ◌∷◌, ◌++◌, Some, None, ◌⊎◌, inl, inr, length, take, refl, sym, subst, arith}
 use Rattle.std.proofs.lemmas.List.{length-take-le}
-use Rattle.std.specs.Prelude.{slice_get}
-use Rattle.px_lexer.specs.declared.token_list.TokenKind.{TokenKind}
 use Rattle.px_exprs.specs.declared.readings.Unread.{Unread}
 use Rattle.px_exprs.specs.declared.readings.Unread.TheVariants as unread
 use Rattle.px_lexer.specs.declared.spelling.Keyword.TheVariants as word
 use Rattle.px_exprs.specs.Terminals.{Terminal, IsKeyword}
-use Rattle.px_exprs.specs.Readings.{Form, Stops, Agree}
+use Rattle.px_exprs.specs.Readings.{Stops, Agree}
 use Rattle.px_exprs.specs.Runs.{nesting_limit}
-use Rattle.px_exprs.proofs.Agreement.{agree_same, agree_back, agree_through, agree_carried, agree_append, agree_front}
-use Rattle.px_parser.specs.Shapes.{Mode, Shape, Token, Here, Place, Placed, Then, Seq, Either, Many, Listed, Of, After, Before}
-use Rattle.px_parser.specs.Parsing.{strict, unseen_from, looks_before, AreTogether}
-use Rattle.px_parser.specs.Readings.{HasWay, HasBlocks, HasShallow, IsShallow, IsReached, IsArrived, IsStuck, IsOver, IsUnread, IsReading, Anywhere}
-use Rattle.px_parser.proofs.Shapely.{Sound, Solid, AtLeast, Rises, IsRising, Hides, Opens, Freshly, IsFresh, opens_longer, sound_many, rises_many}
+use Rattle.px_exprs.proofs.Agreement.{agree_same, agree_back, agree_through, agree_carried, agree_front}
+use Rattle.px_parser.specs.Shapes.{Mode, Shape, Then, Either, Many, Of}
+use Rattle.px_parser.specs.Parsing.{strict, unseen_from, looks_before}
+use Rattle.px_parser.specs.Readings.{HasWay, HasBlocks, HasShallow, IsShallow, IsReached, IsArrived, IsStuck, IsOver, IsUnread, Anywhere}
+use Rattle.px_parser.proofs.Shapely.{Sound, AtLeast, IsRising, Opens, IsFresh, opens_longer, sound_many, rises_many}
 use Rattle.px_parser.proofs.Onlies.{Leads, Clash, Sees, Only, leads_many, leads_wider}
 
 -- Modes

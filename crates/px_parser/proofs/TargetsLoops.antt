@@ -11,11 +11,10 @@ use Rattle.px_tree.specs.declared.expressions.Trailer.{Trailer}
 use Rattle.px_tree.specs.declared.expressions.Trailer.TheVariants as trailer
 use Rattle.px_tree.specs.declared.expressions.Item.TheVariants as item
 use Rattle.px_exprs.specs.declared.readings.Unread.{Unread}
-use Rattle.px_exprs.specs.declared.readings.Unread.TheVariants as unread
 use Rattle.px_exprs.specs.Terminals.{Terminal, Stands, IsKeyword, IsOperator, IsAt}
 use Rattle.px_exprs.specs.Grammar.{node, IsExpr, IsPrimary, IsAtom, AreTrailers, IsTrailer, AreItems, IsItem, HasComma}
 use Rattle.px_exprs.specs.Codes.{Past}
-use Rattle.px_exprs.specs.Readings.{Form, Stops, Agree, HasWay as FormWay, HasShallow as FormShallow, IsReached as FormReached, IsUnread as FormUnread, IsReading as FormReading}
+use Rattle.px_exprs.specs.Readings.{Stops, Agree, IsUnread as FormUnread, IsReading as FormReading}
 use Rattle.px_exprs.specs.Runs.{nesting_limit}
 use Rattle.px_exprs.proofs.Agreement.{agree_same, agree_back, agree_carried, agree_append}
 use Rattle.px_exprs.proofs.Codes.{code_here}

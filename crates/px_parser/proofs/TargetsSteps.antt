@@ -1,6 +1,5 @@
 -- What the reading of expressions tells of the assignment that they begin.
-use Rattle.std.proofs.Common.{◌≡◌, ℕ, suc, ◌≤◌, Bool, true, List, [], ◌∷◌, ◌++◌, length, take, refl, sym, ap, subst, arith}
-use Rattle.std.proofs.lemmas.List.{length-take-le}
+use Rattle.std.proofs.Common.{◌≡◌, ℕ, suc, ◌≤◌, Bool, true, List, [], ◌∷◌, ◌++◌, refl, sym, ap, subst, arith}
 use Rattle.px_base.specs.declared.c_types.BinOp.{BinOp}
 use Rattle.px_lexer.specs.declared.spelling.Operator.TheVariants as sign
 use Rattle.px_lexer.specs.declared.token_list.TokenKind.TheVariants as kind
@@ -12,15 +11,15 @@ use Rattle.px_exprs.specs.Grammar.{IsOf}
 use Rattle.px_exprs.specs.Codes.{Past}
 use Rattle.px_exprs.specs.Readings.{Agree}
 use Rattle.px_exprs.specs.Runs.{nesting_limit}
-use Rattle.px_exprs.proofs.Agreement.{agree_same, agree_back, agree_carried, agree_front}
+use Rattle.px_exprs.proofs.Agreement.{agree_same, agree_back, agree_carried}
 use Rattle.px_exprs.proofs.Keeping.{kind_carried, of_carried}
-use Rattle.px_parser.specs.Shapes.{Mode, Shape, Either, Many, Before, Nested}
-use Rattle.px_parser.specs.Parsing.{strict, looks_before}
+use Rattle.px_parser.specs.Shapes.{Mode, Either, Many, Before, Nested}
+use Rattle.px_parser.specs.Parsing.{strict}
 use Rattle.px_parser.specs.Readings.{IsReached, IsArrived, IsStuck, IsReading}
 use Rattle.px_parser.specs.StatementGrammar.{IsWithinLimit, IsTarget, Targets, Assignment, Augmentation, augmented}
 use Rattle.px_parser.specs.Parts.{ExprsRead, IsTargetTree, Assigned}
 use Rattle.px_parser.specs.Ends.{EndsExprs, EndsSimple}
-use Rattle.px_parser.proofs.Shapely.{Sound, IsRising, Good, sound_many, rises_many, good_before}
+use Rattle.px_parser.proofs.Shapely.{Good, sound_many, rises_many, good_before}
 use Rattle.px_parser.proofs.Onlies.{Sees, sees_less}
 use Rattle.px_parser.proofs.Steps.{Part, Step, sees_strict, many_more, reached_made, reached_whole}
 use Rattle.px_parser.proofs.ExprShapes.{good_exprs_read, only_exprs_read, good_expr, only_expr, end_past}

@@ -1,5 +1,5 @@
 -- What the readers of single tokens answer.
-use Rattle.std.proofs.Common.{◌≡◌, ℕ, suc, ◌+◌, ◌<◌, ◌≤◌, Bool, true, false, List, length, Result, Ok, Err, MatchResult, IsTrue, IsFalse, refl, sym, subst, arith}
+use Rattle.std.proofs.Common.{◌≡◌, ℕ, suc, ◌+◌, ◌<◌, Bool, List, length, Result, Ok, Err, MatchResult, IsTrue, IsFalse, refl, sym, subst, arith}
 use Rattle.px_lexer.specs.declared.token_list.Tokens.{Tokens}
 use Rattle.px_lexer.specs.declared.token_list.TokenKind.{TokenKind}
 use Rattle.px_lexer.specs.declared.token_list.TokenKind.TheVariants as kind

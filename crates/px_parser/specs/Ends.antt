@@ -1,11 +1,11 @@
 -- Where parts of statements end.
-use Rattle.std.specs.Prelude.{◌≡◌, ℕ, suc, ◌≤◌, ◌⊎◌, List, codes}
+use Rattle.std.specs.Prelude.{ℕ, ◌≤◌, ◌⊎◌, List, codes}
 use Rattle.px_lexer.specs.declared.spelling.Keyword.TheVariants as word
 use Rattle.px_lexer.specs.declared.spelling.Operator.{Operator}
 use Rattle.px_lexer.specs.declared.spelling.Operator.TheVariants as sign
 use Rattle.px_lexer.specs.declared.token_list.TokenKind.{TokenKind}
 use Rattle.px_lexer.specs.declared.token_list.TokenKind.TheVariants as kind
-use Rattle.px_exprs.specs.Terminals.{Terminal, HasKind, IsKeyword, IsOperator, IsName}
+use Rattle.px_exprs.specs.Terminals.{HasKind, IsKeyword, IsOperator, IsName}
 use Rattle.px_exprs.specs.Codes.{code_at}
 use Rattle.px_exprs.specs.Readings.{Stops}
 

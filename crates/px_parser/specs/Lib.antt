@@ -1,3 +1,4 @@
+pub mod Blocks
 pub mod Declarations
 pub mod Ends
 pub mod FirstForm

@@ -1,11 +1,10 @@
 -- The grammar of functions, imports and modules (Python Language Reference, 7.11 The import statement, 8.7 Function definitions and
 -- 9.2 File input; Cython user guide, Language Basics, and Cython and the GIL).
-use Rattle.std.specs.Prelude.{◌≡◌, ℕ, suc, Bool, true, false, List, [], ◌∷◌, map, Option, Some, None, codes}
+use Rattle.std.specs.Prelude.{ℕ, Bool, true, false, List, [], ◌∷◌, map, Option, codes}
 use Rattle.px_base.specs.declared.refusals.Span.{Span}
 use Rattle.px_lexer.specs.declared.spelling.Keyword.TheVariants as word
 use Rattle.px_lexer.specs.declared.spelling.Operator.TheVariants as sign
 use Rattle.px_lexer.specs.declared.token_list.TokenKind.TheVariants as kind
-use Rattle.px_tree.specs.declared.typings.«Type».{«Type» as Typing}
 use Rattle.px_tree.specs.declared.statements.Stmt.{Stmt}
 use Rattle.px_tree.specs.declared.modules.Comment.{Comment}
 use Rattle.px_tree.specs.declared.modules.ImportedName.{ImportedName}

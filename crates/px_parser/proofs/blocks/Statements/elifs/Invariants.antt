@@ -1,0 +1,10 @@
+use Rattle.std.proofs.Common.{◌-◌, length}
+use Rattle.px_exprs.specs.Inputs.{terminals_of}
+use Rattle.px_parser.proofs.CompoundSteps.{AreElifs}
+use Rattle.px_parser.proofs.blocks.Statements.elifs.Given as goal
+
+abbrev pub invariant-loop-tree : goal.invariant-loop-tree
+invariant-loop-tree g l = AreElifs (terminals_of l.tokens) l.from l.room l.tree l.to
+
+abbrev pub decreases-loop-tree : goal.decreases-loop-tree
+decreases-loop-tree g l = length l.tokens.list - l.to

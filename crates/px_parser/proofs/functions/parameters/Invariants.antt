@@ -1,0 +1,10 @@
+use Rattle.std.proofs.Common.{◌-◌, length}
+use Rattle.px_exprs.specs.Inputs.{terminals_of}
+use Rattle.px_parser.proofs.FunctionSteps.{AreParameters}
+use Rattle.px_parser.proofs.functions.parameters.Given as goal
+
+abbrev pub invariant-loop-alloc : goal.invariant-loop-alloc
+invariant-loop-alloc l = AreParameters (terminals_of l.tokens) l.from l.tree l.to
+
+abbrev pub decreases-loop-alloc : goal.decreases-loop-alloc
+decreases-loop-alloc l = length l.tokens.list - l.to
