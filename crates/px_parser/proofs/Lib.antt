@@ -29,7 +29,11 @@ mod Lines
 mod ListedSteps
 mod ListingLaws
 mod MaybeTyped
+mod ModuleLaws
 mod NestedReadings
+mod NodeCounts
+mod NodeEquations
+mod NodeLaws
 mod Numbers
 mod Onlies
 mod Parsed

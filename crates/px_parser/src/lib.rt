@@ -10,6 +10,7 @@ mod first_form;
 pub mod foreign;
 mod functions;
 pub mod imports;
+pub mod laws;
 mod modules;
 mod names;
 mod parser;
@@ -26,7 +27,6 @@ pub use first_form::{
     FirstAtom, FirstAtoms, FirstLine, FirstLines, FirstModule, FirstSum, FirstTerm, first,
     first_form_is_unique,
 };
-
 pub use parser::parse;
 
 #[cfg(test)]
