@@ -1,6 +1,12 @@
+mod CallLemmas
+mod DoesLemmas
+mod ExpressionLemmas
+mod NameLemmas
+mod RefusalLemmas
 mod ReplyLemmas
 mod RunLemmas
-mod StepwiseLemmas
+mod StatementLemmas
 mod TopCallLemmas
+mod VariableLemmas
 mod WordLemmas
 mod WritingLemmas

@@ -51,10 +51,10 @@ held_large (Some held) file bytes large given = large_from (held file) bytes lar
 -- the answer for the bytes that the library gave is the answer of the call
 pub answer_for_module : (facts : Facts) (file bytes : List ℕ) (status : Status) (out err : List ℕ) → RunsFile facts.words file → Hands {E = LibraryTrouble} facts.map file (Ok (Some bytes)) → IsUnbroken facts →
     IsModuleAnswer file bytes status out err → IsAnswer facts status out err
-answer_for_module facts file bytes s.Done out err asked given unbroken (lines, formed, output, silent, small) =
-    record { file = file; text = bytes; lines = lines; has = record { asked = asked; held = held_small facts.map file bytes small given; small = small; unbroken = unbroken }; formed = formed; output = output; silent = silent }
-answer_for_module facts file bytes s.Refused out err asked given unbroken (unformed, no_output, line, small) =
-    record { file = file; text = bytes; has = record { asked = asked; held = held_small facts.map file bytes small given; small = small; unbroken = unbroken }; unformed = unformed; no_output = no_output; line = line }
+answer_for_module facts file bytes s.Done out err asked given unbroken (ran, silent, small) =
+    record { file = file; text = bytes; has = record { asked = asked; held = held_small facts.map file bytes small given; small = small; unbroken = unbroken }; ran = ran; silent = silent }
+answer_for_module facts file bytes s.Refused out err asked given unbroken (refusal, refused, no_output, line, small) =
+    record { file = file; text = bytes; refusal = refusal; has = record { asked = asked; held = held_small facts.map file bytes small given; small = small; unbroken = unbroken }; refused = refused; no_output = no_output; line = line }
 answer_for_module facts file bytes s.TooLarge out err asked given unbroken (large, no_output, line) =
     let (text, held, long) = held_large facts.map file bytes large given in
     record { file = file; text = text; asked = asked; held = held; large = long; unbroken = unbroken; no_output = no_output; line = line }

@@ -3,11 +3,10 @@ use Rattle.std.specs.Prelude.{◌≡◌, ◌≢◌, ◌<◌, ◌≤◌, ◌⊎�
 use Rattle.std.specs.Io.KnownBytes.{Appends}
 use Rattle.px_base.specs.declared.statuses.Status.{Status}
 use Rattle.px_base.specs.declared.statuses.Status.TheVariants.{Done, Refused, Usage, Raised, Spent, ReadFault, WriteFault, NoMemory, NoFile, TooLarge}
+use Rattle.px_base.specs.declared.refusals.Refusal.{Refusal}
 use Rattle.px_base.specs.Lines.{refusal_text}
 use Rattle.px_base.specs.Outside.{Rose, Grows}
-use Rattle.px_parser.specs.FirstForm.{IsFirstForm, not_in_this_language}
-use Rattle.px_parser.specs.declared.first_form.FirstLine.{FirstLine}
-use Rattle.px_cli.specs.FirstMeaning.{output_of}
+use Rattle.px_cli.specs.Phases.{IsRun, IsTextRefused}
 use Rattle.px_cli.specs.Words.{RunsFile}
 
 -- the greatest number of bytes of a module
@@ -60,24 +59,23 @@ pub record HasModule (facts : Facts) (file text : List ℕ) : Type 0 where
   pub small : length text ≤ module_limit
   pub unbroken : IsUnbroken facts
 
--- the module is of the first form, and its output is written
+-- the module is of the form that is built, and its output is written
 pub record IsDone (facts : Facts) (out err : List ℕ) : Type 0 where
   pub file : List ℕ
   pub text : List ℕ
-  pub lines : List FirstLine
   pub has : HasModule facts file text
-  pub formed : IsFirstForm text lines
-  pub output : out ≡ output_of lines
+  pub ran : IsRun text out
   pub silent : err ≡ []
 
--- the module isn't of the first form
+-- the module is refused
 pub record IsRefused (facts : Facts) (out err : List ℕ) : Type 0 where
   pub file : List ℕ
   pub text : List ℕ
+  pub refusal : Refusal
   pub has : HasModule facts file text
-  pub unformed : (lines : List FirstLine) → IsFirstForm text lines → ⊥
+  pub refused : IsTextRefused text refusal
   pub no_output : out ≡ []
-  pub line : err ≡ with_line_end (refusal_text file not_in_this_language)
+  pub line : err ≡ with_line_end (refusal_text file refusal)
 
 -- the words ask for nothing
 pub record IsUsage (facts : Facts) (out err : List ℕ) : Type 0 where

@@ -1,7 +1,8 @@
 pub mod Answer
+pub mod FirstForm
 pub mod FirstMeaning
+pub mod Held
 pub mod ModuleAnswer
-pub mod Registers
-pub mod Stepwise
+pub mod Phases
 pub mod Words
 pub mod Writing

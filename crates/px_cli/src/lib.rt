@@ -1,14 +1,16 @@
 //! The calls that the program makes.
 #![tactic(auto)]
 
-mod laws;
+mod arithmetic;
+mod expressions;
 mod replies;
 mod running;
+mod statements;
 mod top_call;
+mod variables;
 mod words;
 mod writing;
 
-pub use laws::sums_wrap_at_each_step;
 pub use top_call::{Report, cython_main, tell_no_memory};
 
 #[cfg(test)]

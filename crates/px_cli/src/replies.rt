@@ -2,6 +2,8 @@ ghost use Rattle.std.specs.Prelude.{◌≡◌, ◌++◌, ◌∷◌, [], ℕ, Lis
 ghost use Rattle.px_base.specs.Lines.{refusal_text};
 ghost use Rattle.px_cli.specs.Answer.{IsAnswer, facts_of, no_file_line, with_line_end};
 ghost use Rattle.px_cli.specs.ModuleAnswer.{IsModuleAnswer};
+ghost use Rattle.px_base.specs.Troubles.{IfRefused};
+ghost use Rattle.px_cli.specs.Phases.{IsRun, IsTextRefused};
 ghost use Rattle.px_cli.specs.Words.{RunsFile};
 
 use crate::running::run_module;
@@ -9,7 +11,8 @@ use crate::words::file_to_run;
 use px_base::{
     Bytes, Library, LibraryTrouble, NoMemory, Refusal, Status, Trouble, refusal_line, utf8,
 };
-use px_parser::first;
+use px_lexer::lexing::tokens;
+use px_parser::parse;
 use std::alloc::Global;
 
 /// The greatest number of bytes of a module.
@@ -62,15 +65,28 @@ fn reply_for_module(alloc: Global, file: &str, text: &[u8]) -> Result<Reply, NoM
     if text.len() > MODULE_LIMIT {
         return reply_of_line(alloc, Status::TooLarge, b"too large");
     }
-    match first(alloc, text) {
-        Ok(module) => Ok(Reply {
+    match output_of(alloc, text) {
+        Ok(output) => Ok(Reply {
             status: Status::Done,
-            output: run_module(alloc, &module)?,
+            output,
             line: Bytes::new(alloc),
         }),
         Err(Trouble::Refused(refusal)) => reply_of_refusal(alloc, file, &refusal),
         Err(Trouble::NoMemory) => Err(NoMemory),
     }
+}
+
+/// What the module with this text prints.
+///
+/// # Errors
+/// The refusal of the first phase whose rules the text breaks; `NoMemory` where there is no memory for a phase or the output.
+fn output_of(alloc: Global, text: &[u8]) -> Result<Bytes, Trouble>
+    ensures done { IfOk result (IsRun text.now) }
+    ensures refused { IfRefused result (IsTextRefused text.now) }
+{
+    let found = tokens(alloc, text)?;
+    let module = parse(alloc, &found)?;
+    run_module(alloc, &module)
 }
 
 fn reply_of_refusal(alloc: Global, file: &str, refusal: &Refusal) -> Result<Reply, NoMemory>

@@ -23,7 +23,7 @@ run m.pyx;def main():/    cdef long z/    print(z)/    z = 10 - 3 - 2/    print(
 run m.pyx;def main():/    print(2 + 3 * 4 - 0)/main();0;0;0;999;0;14/;
 run m.pyx;def main():/    cdef long a = 9223372036854775807/    print(a * a * 2)/main();0;0;0;999;0;2/;
 run m.pyx;;0;0;0;999;1;;m.pyx:1:1: E27 not in this language/
-run m.pyx;1048576;0;0;0;999;1;;m.pyx:1:1: E27 not in this language/
+run m.pyx;1048576;0;0;0;999;1;;m.pyx:1:1048577: E27 not in this language/
 run m.pyx;1048577;0;0;0;999;9;;too large/
 run n.pyx;FIRST;0;0;0;999;8;;no such file: n.pyx/
 run m.pyx;FIRST;1;0;0;999;5;;read fault/

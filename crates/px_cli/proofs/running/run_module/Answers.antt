@@ -1,26 +1,69 @@
-use Rattle.std.proofs.Common.{◌∙◌, ap}
-use Rattle.px_cli.specs.FirstMeaning.{output_of}
-use Rattle.px_cli.proofs.RunLemmas.{values_step, print_step, print_end, zeros_are_longs, zeros_are_first, line_is_formed}
+use Rattle.std.proofs.Common.{◌≡◌, ℕ, List, None, Some, sym, ap, ◌∙◌, subst}
+use Rattle.std.specs.Prelude.{slice_get}
+use Rattle.std.proofs.lemmas.Result.{err_from_is_err_and}
+use Rattle.px_cli.specs.FirstForm.{IsUnbuiltAt, StopsAt}
+use Rattle.px_cli.specs.FirstMeaning.{Values, no_values, DoInTurn}
+use Rattle.px_cli.proofs.RefusalLemmas.{refused_weaker, refused_at, nothing_refused, first_refused, header_refused, body_refused, uncalled_refused, next_refused, further_refused, module_prints}
 use Rattle.px_cli.proofs.running.run_module.Goals as goal
 
-pub run_line-requires-clause-formed : goal.run_line-requires-clause-formed
-run_line-requires-clause-formed c = line_is_formed _ _ _ _ c.as_slice-line-items.ensures c.requires c.loop-line-test.true c.line-item.is
+pub returns-in_default-clause-refused : goal.returns-in_default-clause-refused
+returns-in_default-clause-refused c =
+    let m = c.args.module.now in
+    let none : None ≡ slice_get m.items 0 = c.in_default.ensures ∙ ap (λ xs. slice_get xs 0) c.as_slice-items.ensures in
+    refused_at (List ℕ) m.at c.refused.ensures (nothing_refused none)
 
-pub loop-line-init : goal.loop-line-init
-loop-line-init c = record {
-  longs = zeros_are_longs 26;
-  values = zeros_are_first 26 c.as_slice-line-items.result.now;
-  output = c.new-output.ensures;
-}
+pub returns-in_default-first : goal.returns-in_default-first
+returns-in_default-first c =
+    let m = c.args.module.now in
+    let first : Some c.in-Some.first.now ≡ slice_get m.items 0 = c.in-Some.ensures ∙ ap (λ xs. slice_get xs 0) c.as_slice-items.ensures in
+    record { done = tt; refused = refused_at (List ℕ) c.place.result c.refused-in_default-first.ensures (subst (λ at. IsUnbuiltAt m at) (sym c.place.ensures) (first_refused c.in-Some.first.now first c.in_default-first.not-Function)) }
 
-pub loop-line-preserved : goal.loop-line-preserved
-loop-line-preserved c =
-    let formed = line_is_formed _ _ _ _ c.as_slice-line-items.ensures c.requires c.loop-line-test.true c.line-item.is in
-    record {
-      longs = c.in_ok-run_line.ensures.longs;
-      values = values_step _ _ _ _ _ c.loop-line-test.true c.line-item.is formed c.loop-line.invariant.values c.in_ok-run_line.ensures.values;
-      output = print_step _ _ _ _ _ _ c.loop-line-test.true c.line-item.is formed c.loop-line.invariant.values c.loop-line.invariant.output c.in_ok-run_line.ensures.printed;
-    }
+pub returns-then-not-is_main-clause-refused : goal.returns-then-not-is_main-clause-refused
+returns-then-not-is_main-clause-refused c =
+    let m = c.args.module.now in
+    let first : Some c.in-Some.first.now ≡ slice_get m.items 0 = c.in-Some.ensures ∙ ap (λ xs. slice_get xs 0) c.as_slice-items.ensures in
+    refused_at (List ℕ) c.in-Function.main.at c.refused-then-not-is_main.ensures (header_refused c.in-Some.first.now c.in-Function.main first c.in-Function.is c.if-not-is_main.ensures)
 
-pub returns : goal.returns
-returns c = print_end _ _ _ c.loop-line-test.false c.loop-line.invariant.output ∙ ap output_of c.as_slice-line-items.ensures
+pub returns-in_err-output-clause-refused : goal.returns-in_err-output-clause-refused
+returns-in_err-output-clause-refused c =
+    let m = c.args.module.now in
+    let first : Some c.in-Some.first.now ≡ slice_get m.items 0 = c.in-Some.ensures ∙ ap (λ xs. slice_get xs 0) c.as_slice-items.ensures in
+    let p = err_from_is_err_and c.from_residual.result c.from_residual.ensures.1 in
+    rw (p.1, p.2) (refused_weaker (List ℕ) (List ℕ) c.in_err-output.field-0.0 c.in_err-output.ensures.refused (λ refusal h.
+    (h.0, body_refused c.in-Some.first.now c.in-Function.main first c.in-Function.is c.if-not-is_main.ensures (subst (λ xs. StopsAt no_values xs h.0) c.as_slice.ensures h.1), h.2)))
+
+pub returns-in_default-at-clause-refused : goal.returns-in_default-at-clause-refused
+returns-in_default-at-clause-refused c =
+    let m = c.args.module.now in
+    let first : Some c.in-Some.first.now ≡ slice_get m.items 0 = c.in-Some.ensures ∙ ap (λ xs. slice_get xs 0) c.as_slice-items.ensures in
+    let none : None ≡ slice_get m.items 1 = c.in_default-at.ensures ∙ ap (λ xs. slice_get xs 1) c.as_slice-items.ensures in
+    let done : (after : Values) × DoInTurn no_values c.in-Function.main.body after c.in_ok-output.output = subst (λ xs. (after : Values) × DoInTurn no_values xs after c.in_ok-output.output) c.as_slice.ensures c.in_ok-output.ensures.done in
+    refused_at (List ℕ) m.at c.refused-in_default-at.ensures (uncalled_refused c.in-Some.first.now c.in-Function.main first none c.in-Function.is c.if-not-is_main.ensures done)
+
+pub returns-then-not-is_call-clause-refused : goal.returns-then-not-is_call-clause-refused
+returns-then-not-is_call-clause-refused c =
+    let m = c.args.module.now in
+    let first : Some c.in-Some.first.now ≡ slice_get m.items 0 = c.in-Some.ensures ∙ ap (λ xs. slice_get xs 0) c.as_slice-items.ensures in
+    let next : Some c.in-Some-at.next.now ≡ slice_get m.items 1 = c.in-Some-at.ensures ∙ ap (λ xs. slice_get xs 1) c.as_slice-items.ensures in
+    let done : (after : Values) × DoInTurn no_values c.in-Function.main.body after c.in_ok-output.output = subst (λ xs. (after : Values) × DoInTurn no_values xs after c.in_ok-output.output) c.as_slice.ensures c.in_ok-output.ensures.done in
+    refused_at (List ℕ) c.place-then-not-is_call.result c.refused-then-not-is_call.ensures (subst (λ at. IsUnbuiltAt m at) (sym c.place-then-not-is_call.ensures)
+    (next_refused c.in-Some.first.now c.in-Some-at.next.now c.in-Function.main first next c.in-Function.is c.if-not-is_main.ensures done c.if-not-is_call.ensures))
+
+pub returns-in-Some-at-2-clause-refused : goal.returns-in-Some-at-2-clause-refused
+returns-in-Some-at-2-clause-refused c =
+    let m = c.args.module.now in
+    let first : Some c.in-Some.first.now ≡ slice_get m.items 0 = c.in-Some.ensures ∙ ap (λ xs. slice_get xs 0) c.as_slice-items.ensures in
+    let next : Some c.in-Some-at.next.now ≡ slice_get m.items 1 = c.in-Some-at.ensures ∙ ap (λ xs. slice_get xs 1) c.as_slice-items.ensures in
+    let third : Some c.in-Some-at-2.further.now ≡ slice_get m.items 2 = c.in-Some-at-2.ensures ∙ ap (λ xs. slice_get xs 2) c.as_slice-items.ensures in
+    let done : (after : Values) × DoInTurn no_values c.in-Function.main.body after c.in_ok-output.output = subst (λ xs. (after : Values) × DoInTurn no_values xs after c.in_ok-output.output) c.as_slice.ensures c.in_ok-output.ensures.done in
+    refused_at (List ℕ) c.place-in-Some-at-2.result c.refused-in-Some-at-2.ensures (subst (λ at. IsUnbuiltAt m at) (sym c.place-in-Some-at-2.ensures)
+    (further_refused c.in-Some.first.now c.in-Some-at.next.now c.in-Some-at-2.further.now c.in-Function.main first next third c.in-Function.is c.if-not-is_main.ensures done c.if-not-is_call.ensures))
+
+pub returns-clause-done : goal.returns-clause-done
+returns-clause-done c =
+    let m = c.args.module.now in
+    let first : Some c.in-Some.first.now ≡ slice_get m.items 0 = c.in-Some.ensures ∙ ap (λ xs. slice_get xs 0) c.as_slice-items.ensures in
+    let next : Some c.in-Some-at.next.now ≡ slice_get m.items 1 = c.in-Some-at.ensures ∙ ap (λ xs. slice_get xs 1) c.as_slice-items.ensures in
+    let none : None ≡ slice_get m.items 2 = c.in_default-at-2.ensures ∙ ap (λ xs. slice_get xs 2) c.as_slice-items.ensures in
+    let done : (after : Values) × DoInTurn no_values c.in-Function.main.body after c.in_ok-output.output = subst (λ xs. (after : Values) × DoInTurn no_values xs after c.in_ok-output.output) c.as_slice.ensures c.in_ok-output.ensures.done in
+    module_prints c.in-Some.first.now c.in-Some-at.next.now c.in-Function.main first next none c.in-Function.is c.if-not-is_main.ensures done c.if-not-is_call.ensures
