@@ -21,11 +21,9 @@ mod ImportShapes
 mod ItemLoop
 mod ItemShapes
 mod ItemSteps
-mod Items
 mod KindLaws
 mod LineHeads
 mod LineSteps
-mod Lines
 mod ListedSteps
 mod ListingLaws
 mod MaybeTyped
@@ -34,7 +32,6 @@ mod NestedReadings
 mod NodeCounts
 mod NodeEquations
 mod NodeLaws
-mod Numbers
 mod Onlies
 mod Parsed
 mod PartSteps
@@ -44,9 +41,7 @@ mod Shapely
 mod SignatureReading
 mod SimpleShapes
 mod SimpleSteps
-mod Spellings
 mod Steps
-mod Tables
 mod TargetsLaws
 mod TargetsLoops
 mod TargetsOnly

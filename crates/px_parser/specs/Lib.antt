@@ -1,14 +1,11 @@
 pub mod Blocks
-pub mod Declarations
 pub mod Ends
-pub mod FirstForm
 pub mod Laws
 pub mod Listings
 pub mod ModuleGrammar
 pub mod ModuleNumbers
 pub mod Parsing
 pub mod Parts
-pub mod Reading
 pub mod Readings
 pub mod Shapes
 pub mod StatementGrammar
