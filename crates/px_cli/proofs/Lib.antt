@@ -1,3 +1,4 @@
+mod AnswerLaws
 mod CallLemmas
 mod DoesLemmas
 mod ExpressionLemmas
@@ -5,6 +6,7 @@ mod NameLemmas
 mod RefusalLemmas
 mod ReplyLemmas
 mod RunLemmas
+mod SameValues
 mod StatementLemmas
 mod TopCallLemmas
 mod VariableLemmas

@@ -2,6 +2,7 @@ pub mod Answer
 pub mod FirstForm
 pub mod FirstMeaning
 pub mod Held
+pub mod Laws
 pub mod ModuleAnswer
 pub mod Phases
 pub mod Words

@@ -3,6 +3,7 @@
 
 mod arithmetic;
 mod expressions;
+mod laws;
 mod replies;
 mod running;
 mod statements;
@@ -11,6 +12,7 @@ mod variables;
 mod words;
 mod writing;
 
+pub use laws::answers_are_unique;
 pub use top_call::{Report, cython_main, tell_no_memory};
 
 #[cfg(test)]

@@ -1,0 +1,141 @@
+-- A text has one answer at most.
+use Rattle.std.proofs.Common.{◌≡◌, ℕ, List, [], ◌∷◌, refl, sym, ap, ◌∙◌, subst}
+use Rattle.px_base.specs.declared.refusals.Span.{Span}
+use Rattle.px_base.specs.declared.refusals.Refusal.{Refusal}
+use Rattle.px_base.proofs.FirstFindings.{comes_first-antisymmetric}
+use Rattle.px_lexer.specs.declared.token_list.Token.{Token}
+use Rattle.px_lexer.specs.declared.token_list.Comment.{Comment}
+use Rattle.px_lexer.specs.declared.token_list.Tokens.{Tokens}
+use Rattle.px_lexer.proofs.TextLaws.{tokens_unique, tokens_break_nothing}
+use Rattle.px_tree.specs.declared.modules.Function.{Function}
+use Rattle.px_tree.specs.declared.modules.ModuleItem.{ModuleItem}
+use Rattle.px_tree.specs.declared.modules.ModuleItem.TheVariants as module_item
+use Rattle.px_tree.specs.declared.modules.Module.{Module}
+use Rattle.px_exprs.specs.Inputs.{terminals_of}
+use Rattle.px_parser.specs.Laws.{ParsingIsUnique}
+use Rattle.px_parser.specs.Parsing.{IsModuleOf, IsModuleRefused}
+use Rattle.px_cli.specs.FirstMeaning.{Values, no_values, DoInTurn, IsMain, Prints}
+use Rattle.px_cli.specs.FirstForm.{place_of, StopsAt, IsMainItem, IsCallItem, BeginsWithMain, IsUnbuiltAt, IsUnbuilt, not_built}
+use Rattle.px_cli.specs.Phases.{AreTokensOf, IsModuleText, IsRun, IsTextRefused}
+use Rattle.px_cli.specs.Laws.{AnswersAreUnique}
+use Rattle.px_cli.proofs.SameValues.{turns_same, stops_or_does, stops_same}
+
+-- Where a module is refused, by its items
+
+-- what stands behind the function `main` is refused there
+data EndsAt (whole : Span) : List ModuleItem → Span → Type 0 where
+  uncalled : {at : Span} → at ≡ whole → EndsAt whole [] at
+  other_next : {item : ModuleItem} {others : List ModuleItem} {at : Span} → (IsCallItem item → ⊥) → at ≡ place_of item → EndsAt whole (item ∷ others) at
+  further : {call item : ModuleItem} {others : List ModuleItem} {at : Span} → IsCallItem call → at ≡ place_of item → EndsAt whole (call ∷ item ∷ others) at
+
+-- these items are refused there
+data StandsAt (whole : Span) : List ModuleItem → Span → Type 0 where
+  empty : {at : Span} → at ≡ whole → StandsAt whole [] at
+  other_first : {item : ModuleItem} {others : List ModuleItem} {at : Span} → (IsMainItem item → ⊥) → at ≡ place_of item → StandsAt whole (item ∷ others) at
+  in_main : {main : Function} {others : List ModuleItem} {at : Span} → IsMain main → StopsAt no_values main.body at → StandsAt whole (module_item.Function main ∷ others) at
+  behind : {main : Function} {others : List ModuleItem} {at : Span} {after : Values} {output : List ℕ} → IsMain main → DoInTurn no_values main.body after output → EndsAt whole others at → StandsAt whole (module_item.Function main ∷ others) at
+
+behind_main : {whole at : Span} {items others : List ModuleItem} → BeginsWithMain items others → EndsAt whole others at → StandsAt whole items at
+behind_main {whole} {at} begins ends = subst (λ xs. StandsAt whole xs at) (sym begins.items_are) (StandsAt.behind begins.header begins.does ends)
+
+by_items : {m : Module} {at : Span} → IsUnbuiltAt m at → StandsAt m.at m.items at
+by_items {m} {at} (IsUnbuiltAt.other_first item others is none place) = subst (λ xs. StandsAt m.at xs at) (sym is) (StandsAt.other_first none place)
+by_items {m} {at} (IsUnbuiltAt.in_main main others is header stops) = subst (λ xs. StandsAt m.at xs at) (sym is) (StandsAt.in_main header stops)
+by_items (IsUnbuiltAt.other_next item others begins none place) = behind_main begins (EndsAt.other_next none place)
+by_items (IsUnbuiltAt.further call item others begins is_call place) = behind_main begins (EndsAt.further is_call place)
+by_items {m} {at} (IsUnbuiltAt.empty none place) = subst (λ xs. StandsAt m.at xs at) (sym none) (StandsAt.empty place)
+by_items (IsUnbuiltAt.uncalled begins place) = behind_main begins (EndsAt.uncalled place)
+
+ends_once : {whole at other : Span} {items : List ModuleItem} → EndsAt whole items at → EndsAt whole items other → at ≡ other
+ends_once (EndsAt.uncalled p) (EndsAt.uncalled q) = p ∙ sym q
+ends_once (EndsAt.other_next none p) (EndsAt.other_next never q) = p ∙ sym q
+ends_once (EndsAt.other_next none p) (EndsAt.further call q) = absurd (none call)
+ends_once (EndsAt.further call p) (EndsAt.other_next none q) = absurd (none call)
+ends_once (EndsAt.further call p) (EndsAt.further same q) = p ∙ sym q
+
+stands_once : {whole at other : Span} {items : List ModuleItem} → StandsAt whole items at → StandsAt whole items other → at ≡ other
+stands_once (StandsAt.empty p) (StandsAt.empty q) = p ∙ sym q
+stands_once (StandsAt.other_first none p) (StandsAt.other_first never q) = p ∙ sym q
+stands_once (StandsAt.other_first none p) (StandsAt.in_main header stops) = absurd (none header)
+stands_once (StandsAt.other_first none p) (StandsAt.behind header does ends) = absurd (none header)
+stands_once (StandsAt.in_main header stops) (StandsAt.other_first none q) = absurd (none header)
+stands_once (StandsAt.in_main header stops) (StandsAt.in_main again still) = stops_same (λ name. refl) stops still
+stands_once (StandsAt.in_main header stops) (StandsAt.behind again does ends) = absurd (stops_or_does (λ name. refl) stops does)
+stands_once (StandsAt.behind header does ends) (StandsAt.other_first none q) = absurd (none header)
+stands_once (StandsAt.behind header does ends) (StandsAt.in_main again stops) = absurd (stops_or_does (λ name. refl) stops does)
+stands_once (StandsAt.behind header does ends) (StandsAt.behind again same stop) = ends_once ends stop
+
+unbuilt_once : {m : Module} {refusal other : Refusal} → IsUnbuilt m refusal → IsUnbuilt m other → refusal ≡ other
+unbuilt_once a b = a.2 ∙ ap not_built (stands_once (by_items a.1) (by_items b.1)) ∙ sym b.2
+
+-- What a module prints: one output, and nothing where it is refused
+
+same_main : {main other : Function} {items others : List ModuleItem} → module_item.Function main ∷ items ≡ module_item.Function other ∷ others → main ≡ other
+same_main {main} {other} e = let same : module_item.Function main ≡ module_item.Function other = cc in cc
+
+printed_once : {m : Module} {output other : List ℕ} → Prints m output → Prints m other → output ≡ other
+printed_once {output = output} a b =
+    let same : a.main ≡ b.main = same_main (sym a.items ∙ b.items) in
+    turns_same (λ name. refl) (subst (λ (f : Function). DoInTurn no_values f.body a.after output) same a.does) b.does
+
+prints_or_stands : {whole at : Span} {call : ModuleItem} {main : Function} {after : Values} {output : List ℕ} → IsMain main → DoInTurn no_values main.body after output → IsCallItem call
+    → StandsAt whole (module_item.Function main ∷ call ∷ []) at → ⊥
+prints_or_stands header does call (StandsAt.other_first none place) = none header
+prints_or_stands header does call (StandsAt.in_main again stops) = stops_or_does (λ name. refl) stops does
+prints_or_stands header does call (StandsAt.behind again same (EndsAt.other_next none place)) = none call
+
+prints_or_refused : {m : Module} {output : List ℕ} {refusal : Refusal} → Prints m output → IsUnbuilt m refusal → ⊥
+prints_or_refused {m} p r = prints_or_stands {call = module_item.Statement p.call} p.header p.does p.called (subst (λ xs. StandsAt m.at xs r.0) p.items (by_items r.1))
+
+-- What a text is: one list of tokens, and one module
+
+abbrev tokens_of : List ℕ → List Token → List Comment → Tokens
+tokens_of text list comments = record { text = text; list = list; comments = comments }
+
+tokens_same : {text : List ℕ} {tokens others : Tokens} → AreTokensOf text tokens → AreTokensOf text others → tokens ≡ others
+tokens_same {text} {tokens} {others} a b =
+    let same = tokens_unique text tokens.list others.list tokens.comments others.comments a.listed b.listed in
+    ap (λ x. tokens_of x tokens.list tokens.comments) (a.kept ∙ sym b.kept) ∙ ap (λ x. tokens_of others.text x tokens.comments) same.0 ∙ ap (λ x. tokens_of others.text others.list x) same.1
+
+module_same : {text : List ℕ} {m n : Module} → ParsingIsUnique → IsModuleText text m → IsModuleText text n → m ≡ n
+module_same {n = n} parsing a b = parsing.parsed a.tokens _ n a.parsed (subst (λ ts. IsModuleOf ts n) (tokens_same b.lexed a.lexed) b.parsed)
+
+-- Why a text is refused
+
+-- a text with tokens is refused by the grammar, or for what isn't built
+data IsRefusedBehind (text : List ℕ) (refusal : Refusal) : Type 0 where
+  by_grammar : (tokens : Tokens) → AreTokensOf text tokens → IsModuleRefused (terminals_of tokens) refusal → IsRefusedBehind text refusal
+  by_form : (m : Module) → IsModuleText text m → IsUnbuilt m refusal → IsRefusedBehind text refusal
+
+behind_tokens : {text : List ℕ} {refusal : Refusal} (tokens : Tokens) → AreTokensOf text tokens → IsTextRefused text refusal → IsRefusedBehind text refusal
+behind_tokens {text} {refusal} tokens lexed (IsTextRefused.no_tokens first) = absurd (tokens_break_nothing text tokens.list tokens.comments lexed.listed refusal first.0)
+behind_tokens tokens lexed (IsTextRefused.no_module others again refused) = IsRefusedBehind.by_grammar others again refused
+behind_tokens tokens lexed (IsTextRefused.not_built m is unbuilt) = IsRefusedBehind.by_form m is unbuilt
+
+module_or_refused : {text : List ℕ} {m : Module} {refusal : Refusal} (tokens : Tokens) → ParsingIsUnique → IsModuleText text m → AreTokensOf text tokens → IsModuleRefused (terminals_of tokens) refusal → ⊥
+module_or_refused {m = m} {refusal = refusal} tokens parsing is lexed refused = parsing.either tokens m refusal (subst (λ ts. IsModuleOf ts m) (tokens_same is.lexed lexed) is.parsed) refused
+
+behind_once : {text : List ℕ} {refusal other : Refusal} → ParsingIsUnique → IsRefusedBehind text refusal → IsRefusedBehind text other → refusal ≡ other
+behind_once {refusal = refusal} {other = other} parsing (IsRefusedBehind.by_grammar tokens lexed p) (IsRefusedBehind.by_grammar others again q) =
+    parsing.refused (terminals_of tokens) refusal other p (subst (λ ts. IsModuleRefused (terminals_of ts) other) (tokens_same again lexed) q)
+behind_once parsing (IsRefusedBehind.by_grammar tokens lexed p) (IsRefusedBehind.by_form m is q) = absurd (module_or_refused tokens parsing is lexed p)
+behind_once parsing (IsRefusedBehind.by_form m is p) (IsRefusedBehind.by_grammar tokens lexed q) = absurd (module_or_refused tokens parsing is lexed q)
+behind_once {other = other} parsing (IsRefusedBehind.by_form m is p) (IsRefusedBehind.by_form n again q) = unbuilt_once p (subst (λ x. IsUnbuilt x other) (module_same parsing again is) q)
+
+refused_once : (text : List ℕ) (refusal other : Refusal) → ParsingIsUnique → IsTextRefused text refusal → IsTextRefused text other → refusal ≡ other
+refused_once text refusal other parsing (IsTextRefused.no_tokens p) (IsTextRefused.no_tokens q) = comes_first-antisymmetric refusal other (p.1 other q.0) (q.1 refusal p.0)
+refused_once text refusal other parsing (IsTextRefused.no_tokens p) (IsTextRefused.no_module tokens lexed q) = absurd (tokens_break_nothing text tokens.list tokens.comments lexed.listed refusal p.0)
+refused_once text refusal other parsing (IsTextRefused.no_tokens p) (IsTextRefused.not_built m is q) = absurd (tokens_break_nothing text is.tokens.list is.tokens.comments is.lexed.listed refusal p.0)
+refused_once text refusal other parsing (IsTextRefused.no_module tokens lexed p) q = behind_once parsing (IsRefusedBehind.by_grammar tokens lexed p) (behind_tokens tokens lexed q)
+refused_once text refusal other parsing (IsTextRefused.not_built m is p) q = behind_once parsing (IsRefusedBehind.by_form m is p) (behind_tokens is.tokens is.lexed q)
+
+run_or_refused : (text output : List ℕ) (refusal : Refusal) → ParsingIsUnique → IsRun text output → IsRefusedBehind text refusal → ⊥
+run_or_refused text output refusal parsing run (IsRefusedBehind.by_grammar tokens lexed refused) = module_or_refused tokens parsing run.is_module lexed refused
+run_or_refused text output refusal parsing run (IsRefusedBehind.by_form m is unbuilt) = prints_or_refused run.prints (subst (λ x. IsUnbuilt x refusal) (module_same parsing is run.is_module) unbuilt)
+
+pub answers_unique : ParsingIsUnique → AnswersAreUnique
+answers_unique parsing = record {
+  printed = λ text output other a b. printed_once a.prints (subst (λ m. Prints m other) (module_same parsing b.is_module a.is_module) b.prints);
+  refused = λ text refusal other a b. refused_once text refusal other parsing a b;
+  either = λ text output refusal run refused. run_or_refused text output refusal parsing run (behind_tokens run.is_module.tokens run.is_module.lexed refused);
+}
