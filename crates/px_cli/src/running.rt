@@ -76,13 +76,13 @@ fn run_body(alloc: Global, body: &[Stmt]) -> Result<Bytes, Trouble>
 /// # Errors
 /// E27 at the first import, function, declaration or statement with which the module isn't of the form that is built, or at its first
 /// token where something is missing; `NoMemory` where there is no memory for its variables or the output.
-pub(crate) fn run_module(alloc: Global, module: &Module) -> Result<Bytes, Trouble>
-    ensures done { IfOk result (Prints module.now) }
-    ensures refused { IfRefused result (IsUnbuilt module.now) }
+pub(crate) fn run_module(alloc: Global, tree: &Module) -> Result<Bytes, Trouble>
+    ensures done { IfOk result (Prints tree.now) }
+    ensures refused { IfRefused result (IsUnbuilt tree.now) }
 {
-    let items = module.items.as_slice();
+    let items = tree.items.as_slice();
     let Some(first) = at(items, 0) else {
-        return Err(refused(module.at));
+        return Err(refused(tree.at));
     };
     let ModuleItem::Function(main) = first else {
         return Err(refused(place(first)));
@@ -92,7 +92,7 @@ pub(crate) fn run_module(alloc: Global, module: &Module) -> Result<Bytes, Troubl
     }
     let output = run_body(alloc, main.body.as_slice())?;
     let Some(next) = at(items, 1) else {
-        return Err(refused(module.at));
+        return Err(refused(tree.at));
     };
     if !is_call(next) {
         return Err(refused(place(next)));

@@ -8,25 +8,25 @@ use Rattle.px_cli.proofs.running.run_module.Goals as goal
 
 pub returns-in_default-clause-refused : goal.returns-in_default-clause-refused
 returns-in_default-clause-refused c =
-    let m = c.args.module.now in
+    let m = c.args.tree.now in
     let none : None ≡ slice_get m.items 0 = c.in_default.ensures ∙ ap (λ xs. slice_get xs 0) c.as_slice-items.ensures in
     refused_at (List ℕ) m.at c.refused.ensures (nothing_refused none)
 
 pub returns-in_default-first : goal.returns-in_default-first
 returns-in_default-first c =
-    let m = c.args.module.now in
+    let m = c.args.tree.now in
     let first : Some c.in-Some.first.now ≡ slice_get m.items 0 = c.in-Some.ensures ∙ ap (λ xs. slice_get xs 0) c.as_slice-items.ensures in
     record { done = tt; refused = refused_at (List ℕ) c.place.result c.refused-in_default-first.ensures (subst (λ at. IsUnbuiltAt m at) (sym c.place.ensures) (first_refused c.in-Some.first.now first c.in_default-first.not-Function)) }
 
 pub returns-then-not-is_main-clause-refused : goal.returns-then-not-is_main-clause-refused
 returns-then-not-is_main-clause-refused c =
-    let m = c.args.module.now in
+    let m = c.args.tree.now in
     let first : Some c.in-Some.first.now ≡ slice_get m.items 0 = c.in-Some.ensures ∙ ap (λ xs. slice_get xs 0) c.as_slice-items.ensures in
     refused_at (List ℕ) c.in-Function.main.at c.refused-then-not-is_main.ensures (header_refused c.in-Some.first.now c.in-Function.main first c.in-Function.is c.if-not-is_main.ensures)
 
 pub returns-in_err-output-clause-refused : goal.returns-in_err-output-clause-refused
 returns-in_err-output-clause-refused c =
-    let m = c.args.module.now in
+    let m = c.args.tree.now in
     let first : Some c.in-Some.first.now ≡ slice_get m.items 0 = c.in-Some.ensures ∙ ap (λ xs. slice_get xs 0) c.as_slice-items.ensures in
     let p = err_from_is_err_and c.from_residual.result c.from_residual.ensures.1 in
     rw (p.1, p.2) (refused_weaker (List ℕ) (List ℕ) c.in_err-output.field-0.0 c.in_err-output.ensures.refused (λ refusal h.
@@ -34,7 +34,7 @@ returns-in_err-output-clause-refused c =
 
 pub returns-in_default-at-clause-refused : goal.returns-in_default-at-clause-refused
 returns-in_default-at-clause-refused c =
-    let m = c.args.module.now in
+    let m = c.args.tree.now in
     let first : Some c.in-Some.first.now ≡ slice_get m.items 0 = c.in-Some.ensures ∙ ap (λ xs. slice_get xs 0) c.as_slice-items.ensures in
     let none : None ≡ slice_get m.items 1 = c.in_default-at.ensures ∙ ap (λ xs. slice_get xs 1) c.as_slice-items.ensures in
     let done : (after : Values) × DoInTurn no_values c.in-Function.main.body after c.in_ok-output.output = subst (λ xs. (after : Values) × DoInTurn no_values xs after c.in_ok-output.output) c.as_slice.ensures c.in_ok-output.ensures.done in
@@ -42,7 +42,7 @@ returns-in_default-at-clause-refused c =
 
 pub returns-then-not-is_call-clause-refused : goal.returns-then-not-is_call-clause-refused
 returns-then-not-is_call-clause-refused c =
-    let m = c.args.module.now in
+    let m = c.args.tree.now in
     let first : Some c.in-Some.first.now ≡ slice_get m.items 0 = c.in-Some.ensures ∙ ap (λ xs. slice_get xs 0) c.as_slice-items.ensures in
     let next : Some c.in-Some-at.next.now ≡ slice_get m.items 1 = c.in-Some-at.ensures ∙ ap (λ xs. slice_get xs 1) c.as_slice-items.ensures in
     let done : (after : Values) × DoInTurn no_values c.in-Function.main.body after c.in_ok-output.output = subst (λ xs. (after : Values) × DoInTurn no_values xs after c.in_ok-output.output) c.as_slice.ensures c.in_ok-output.ensures.done in
@@ -51,7 +51,7 @@ returns-then-not-is_call-clause-refused c =
 
 pub returns-in-Some-at-2-clause-refused : goal.returns-in-Some-at-2-clause-refused
 returns-in-Some-at-2-clause-refused c =
-    let m = c.args.module.now in
+    let m = c.args.tree.now in
     let first : Some c.in-Some.first.now ≡ slice_get m.items 0 = c.in-Some.ensures ∙ ap (λ xs. slice_get xs 0) c.as_slice-items.ensures in
     let next : Some c.in-Some-at.next.now ≡ slice_get m.items 1 = c.in-Some-at.ensures ∙ ap (λ xs. slice_get xs 1) c.as_slice-items.ensures in
     let third : Some c.in-Some-at-2.further.now ≡ slice_get m.items 2 = c.in-Some-at-2.ensures ∙ ap (λ xs. slice_get xs 2) c.as_slice-items.ensures in
@@ -61,7 +61,7 @@ returns-in-Some-at-2-clause-refused c =
 
 pub returns-clause-done : goal.returns-clause-done
 returns-clause-done c =
-    let m = c.args.module.now in
+    let m = c.args.tree.now in
     let first : Some c.in-Some.first.now ≡ slice_get m.items 0 = c.in-Some.ensures ∙ ap (λ xs. slice_get xs 0) c.as_slice-items.ensures in
     let next : Some c.in-Some-at.next.now ≡ slice_get m.items 1 = c.in-Some-at.ensures ∙ ap (λ xs. slice_get xs 1) c.as_slice-items.ensures in
     let none : None ≡ slice_get m.items 2 = c.in_default-at-2.ensures ∙ ap (λ xs. slice_get xs 2) c.as_slice-items.ensures in
