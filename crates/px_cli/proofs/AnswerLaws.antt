@@ -15,7 +15,7 @@ use Rattle.px_exprs.specs.Inputs.{terminals_of}
 use Rattle.px_parser.specs.Laws.{ParsingIsUnique}
 use Rattle.px_parser.specs.Parsing.{IsModuleOf, IsModuleRefused}
 use Rattle.px_cli.specs.FirstMeaning.{Values, no_values, DoInTurn, IsMain, Prints}
-use Rattle.px_cli.specs.FirstForm.{place_of, StopsAt, IsMainItem, IsCallItem, BeginsWithMain, IsUnbuiltAt, IsUnbuilt, not_built}
+use Rattle.px_cli.specs.FirstRefusals.{place_of, StopsAt, IsMainItem, IsCallItem, BeginsWithMain, IsUnbuiltAt, IsUnbuilt, not_built}
 use Rattle.px_cli.specs.Phases.{AreTokensOf, IsModuleText, IsRun, IsTextRefused}
 use Rattle.px_cli.specs.Laws.{AnswersAreUnique}
 use Rattle.px_cli.proofs.SameValues.{turns_same, stops_or_does, stops_same}

@@ -21,7 +21,7 @@ use Rattle.px_tree.specs.declared.statements.StmtForm.TheVariants as stmt_form
 use Rattle.px_tree.specs.declared.modules.ModuleItem.{ModuleItem}
 use Rattle.px_tree.specs.declared.modules.ModuleItem.TheVariants as module_item
 use Rattle.px_cli.specs.FirstMeaning.{IsCall, CallsMain}
-use Rattle.px_cli.specs.FirstForm.{IsCallItem}
+use Rattle.px_cli.specs.FirstRefusals.{IsCallItem}
 use Rattle.px_cli.proofs.StatementLemmas.{same_assign, same_row}
 
 abbrev TrailerLayer : Type 0

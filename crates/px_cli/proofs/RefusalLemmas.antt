@@ -12,7 +12,7 @@ use Rattle.px_tree.specs.declared.modules.ModuleItem.{ModuleItem}
 use Rattle.px_tree.specs.declared.modules.ModuleItem.TheVariants as module_item
 use Rattle.px_tree.specs.declared.modules.Module.{Module}
 use Rattle.px_cli.specs.FirstMeaning.{Values, no_values, DoInTurn, IsMain, Prints}
-use Rattle.px_cli.specs.FirstForm.{StopsAt, IsMainItem, IsCallItem, BeginsWithMain, IsUnbuiltAt, IsUnbuilt, not_built, place_of}
+use Rattle.px_cli.specs.FirstRefusals.{StopsAt, IsMainItem, IsCallItem, BeginsWithMain, IsUnbuiltAt, IsUnbuilt, not_built, place_of}
 
 pub refused_weaker : (T U : Type 0) {P Q : Refusal → Type 0} (u : Trouble) → IfRefused {T = T} (Err u) P → ((refusal : Refusal) → P refusal → Q refusal) → IfRefused {T = U} (Err u) Q
 refused_weaker T U (trouble.Refused refusal) h weaker = weaker refusal h

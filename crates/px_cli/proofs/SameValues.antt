@@ -19,7 +19,7 @@ use Rattle.px_tree.specs.declared.statements.StmtForm.TheVariants as stmt_form
 use Rattle.px_tree.specs.declared.statements.Declaration.{Declaration}
 use Rattle.px_tree.specs.declared.statements.Declarator.{Declarator}
 use Rattle.px_cli.specs.FirstMeaning.{Values, Sets, AtomIs, FactorsGive, ProductIs, TermsGive, SumIs, DeclaresOne, IsCall, Calls, Does, DoInTurn}
-use Rattle.px_cli.specs.FirstForm.{StopsAt}
+use Rattle.px_cli.specs.FirstRefusals.{StopsAt}
 use Rattle.px_cli.specs.Held.{BeginsWithTerm, BeginsAs}
 use Rattle.px_cli.proofs.ExpressionLemmas.{same_name, product_unique, sum_chain}
 use Rattle.px_cli.proofs.StatementLemmas.{same_declaration, same_assign, declare_or_assign}

@@ -1,6 +1,6 @@
 pub mod Answer
-pub mod FirstForm
 pub mod FirstMeaning
+pub mod FirstRefusals
 pub mod Held
 pub mod Laws
 pub mod ModuleAnswer

@@ -10,7 +10,7 @@ use Rattle.px_tree.specs.declared.modules.Module.{Module}
 use Rattle.px_exprs.specs.Inputs.{terminals_of}
 use Rattle.px_parser.specs.Parsing.{IsModuleOf, IsModuleRefused}
 use Rattle.px_cli.specs.FirstMeaning.{Prints}
-use Rattle.px_cli.specs.FirstForm.{IsUnbuilt}
+use Rattle.px_cli.specs.FirstRefusals.{IsUnbuilt}
 
 -- these are the tokens of the text
 pub record AreTokensOf (text : List ℕ) (tokens : Tokens) : Type 0 where

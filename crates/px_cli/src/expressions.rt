@@ -16,7 +16,7 @@ const LEAST: i128 = -9_223_372_036_854_775_808;
 const GREATEST: i128 = 9_223_372_036_854_775_807;
 
 /// Whether a `long` holds the number.
-fn is_long(number: i128) -> bool
+fn fits_long(number: i128) -> bool
     ensures { MatchBool result (IsInRange Long number) (IsInRange Long number → ⊥) }
 {
     LEAST <= number && number <= GREATEST
@@ -29,7 +29,7 @@ fn value_of_atom(variables: &Variables<'_>, expr: &Expr) -> Option<i128>
 {
     match &expr.form {
         ExprForm::Name(name) => variables.value(name.as_slice()),
-        ExprForm::Number(number) if is_long(*number) => Some(*number),
+        ExprForm::Number(number) if fits_long(*number) => Some(*number),
         _ => None,
     }
 }

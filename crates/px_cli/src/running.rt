@@ -3,10 +3,10 @@
 ghost use Rattle.std.specs.Prelude.{◌≡◌, MatchBool, IfOk};
 ghost use Rattle.px_base.specs.declared.refusals.Span.{Span};
 ghost use Rattle.px_base.specs.Troubles.{IfRefused};
-ghost use Rattle.px_cli.specs.FirstForm.{IsCallItem, IsUnbuilt, StopsAt, not_built, place_of};
+ghost use Rattle.px_cli.specs.FirstRefusals.{IsCallItem, IsUnbuilt, StopsAt, not_built, place_of};
 ghost use Rattle.px_cli.specs.FirstMeaning.{DoInTurn, IsMain, Prints, Values, no_values};
 
-use crate::statements::{arguments_of, refused, run_statement};
+use crate::statements::{MAIN, arguments_of, refused, run_statement};
 use crate::variables::Variables;
 use px_base::{Bytes, Span, Trouble};
 use px_tree::{
@@ -14,8 +14,6 @@ use px_tree::{
 };
 use sqlite_items::at;
 use std::alloc::Global;
-
-const MAIN: &[char] = &['m', 'a', 'i', 'n'];
 
 /// Whether it is `def main():`, with nothing else in its head.
 fn is_main(function: &Function) -> bool
@@ -53,7 +51,7 @@ fn place(item: &ModuleItem) -> Span
 {
     match item {
         ModuleItem::Import(found) => found.at,
-        ModuleItem::Function(found) => found.at,
+        ModuleItem::Function(found) => found.get().at,
         ModuleItem::Statement(found) => found.at,
     }
 }
@@ -87,6 +85,7 @@ pub(crate) fn run_module(alloc: Global, tree: &Module) -> Result<Bytes, Trouble>
     let ModuleItem::Function(main) = first else {
         return Err(refused(place(first)));
     };
+    let main = main.get();
     if !is_main(main) {
         return Err(refused(main.at));
     }

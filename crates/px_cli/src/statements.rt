@@ -10,7 +10,7 @@ ghost use Rattle.px_tree.specs.declared.expressions.Argument.{Argument};
 ghost use Rattle.px_tree.specs.declared.expressions.ExprForm.TheVariants as form;
 ghost use Rattle.px_tree.specs.declared.statements.Declarator.{Declarator};
 ghost use Rattle.px_tree.specs.declared.statements.StmtForm.TheVariants as stmt_form;
-ghost use Rattle.px_cli.specs.FirstForm.{not_built};
+ghost use Rattle.px_cli.specs.FirstRefusals.{not_built};
 ghost use Rattle.px_cli.specs.FirstMeaning.{DeclaresOne, Does, IsCall, IsLong, Values, reserved_names};
 ghost use Rattle.px_cli.specs.Held.{AreLongs, BeginsAs, IsTried, held};
 
@@ -22,9 +22,13 @@ use px_tree::{
     Argument, BaseType, Declaration, Declarator, Expr, ExprForm, Stmt, StmtForm, Trailer, Type,
 };
 
+pub(crate) const MAIN: &[char] = &['m', 'a', 'i', 'n'];
+
+const PRINT: &[char] = &['p', 'r', 'i', 'n', 't'];
+
 const RESERVED: [&[char]; 14] = [
-    &['m', 'a', 'i', 'n'],
-    &['p', 'r', 'i', 'n', 't'],
+    MAIN,
+    PRINT,
     &['i', 'n', 'p', 'u', 't'],
     &['l', 'e', 'n'],
     &['i', 'n', 't'],
@@ -202,7 +206,7 @@ fn printed(call: &Expr) -> Option<&Argument>
         ((argument : Argument) → IsCall (codes "print") call.now (argument ∷ []) → argument.name ≡ None → ⊥)
         (λ argument. IsCall (codes "print") call.now (argument.now ∷ []) × (argument.now.name ≡ None)) }
 {
-    let Some(arguments) = arguments_of(&['p', 'r', 'i', 'n', 't'], call) else {
+    let Some(arguments) = arguments_of(PRINT, call) else {
         return None;
     };
     let Some(argument) = only(arguments) else {

@@ -18,7 +18,7 @@ use crate::readings::{Read, Unread, room_within};
 use crate::typings::typing;
 use crate::words::{is_keyword, is_operator};
 use px_lexer::{Keyword, Operator, Tokens};
-use px_tree::{Comparison, Expr, ExprForm, Link};
+use px_tree::{Comparison, Expr, ExprForm, Link, room_for_one};
 use sqlite_items::{Boxed, Items};
 use std::alloc::Global;
 
@@ -76,7 +76,7 @@ impl<F: Fn(Global, &Tokens, usize, usize) -> Result<Read<Expr>, Unread>> Grammar
             return Ok(first);
         }
         let room = room_within(room, first.depth, number)?;
-        let mut links = Items::new(self.alloc);
+        let mut links = room_for_one(self.alloc)?;
         let mut depth = 0;
         let mut to = number;
         while let Some(op) = binary_operator(level, tokens, to) {
@@ -113,7 +113,7 @@ impl<F: Fn(Global, &Tokens, usize, usize) -> Result<Read<Expr>, Unread>> Grammar
         requires begins { BeginsComparison (terminals_of tokens.now) from }
         ensures { Reads AreComparisons (Past 23) (terminals_of tokens.now) from room result }
     {
-        let mut found = Items::new(self.alloc);
+        let mut found = room_for_one(self.alloc)?;
         let mut depth = 0;
         let mut to = from;
         while begins_comparison(tokens, to) {

@@ -7,7 +7,7 @@ pub mod grammar;
 pub mod laws;
 mod lists;
 pub mod nodes;
-mod operators;
+pub mod operators;
 pub mod reader;
 pub mod readings;
 #[cfg(test)]

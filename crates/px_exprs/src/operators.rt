@@ -51,7 +51,7 @@ const COMPARE_SIGNS: [(Operator, CompareOp); 6] = [
 ];
 
 /// What the operator at an index stands for in a table.
-fn meaning<T: Copy>(table: &[(Operator, T)], tokens: &Tokens, at: usize) -> Option<T>
+pub fn meaning<T: Copy>(table: &[(Operator, T)], tokens: &Tokens, at: usize) -> Option<T>
     ensures { MatchOption result ((meant : T) → IsOf table.now (terminals_of tokens.now) at meant → ⊥) (IsOf table.now (terminals_of tokens.now) at) }
 {
     let Some(sign) = operator_at(tokens, at) else {

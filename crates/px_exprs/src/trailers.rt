@@ -17,7 +17,7 @@ use crate::readings::{Read, Unread, room_within};
 use crate::words::{begins_expr, ends_element, is_name, is_operator, name, operator_at};
 use px_base::Chars;
 use px_lexer::{Operator, Tokens};
-use px_tree::{Argument, Expr, ExprForm, Item, Trailer};
+use px_tree::{Argument, Expr, ExprForm, Item, Trailer, room_for_one};
 use sqlite_items::{Boxed, Items};
 use std::alloc::{AllocError, Global};
 
@@ -267,7 +267,7 @@ impl<F: Fn(Global, &Tokens, usize, usize) -> Result<Read<Expr>, Unread>> Grammar
         requires nests { Nests (suc room) (F.pre self.now.nested) (F.post self.now.nested) }
         ensures { Reads (Listed AreItems false) (At sign.CloseBracket) (terminals_of tokens.now) from room result }
     {
-        let mut items = Items::new(self.alloc);
+        let mut items = room_for_one(self.alloc)?;
         let mut depth: usize = 0;
         let mut to = from;
         while to == from || !is_operator(tokens, to, Operator::CloseBracket) {
@@ -344,7 +344,7 @@ impl<F: Fn(Global, &Tokens, usize, usize) -> Result<Read<Expr>, Unread>> Grammar
         requires begins { BeginsTrailer (terminals_of tokens.now) from }
         ensures { Reads AreTrailers (Past 12) (terminals_of tokens.now) from room result }
     {
-        let mut found = Items::new(self.alloc);
+        let mut found = room_for_one(self.alloc)?;
         let mut depth: usize = 0;
         let mut to = from;
         while begins_trailer(tokens, to) {

@@ -25,6 +25,7 @@ use Rattle.px_parser.proofs.Onlies.{Leads, Clash, Sees, Only}
 use Rattle.px_parser.proofs.Steps.{Step, Made, Never, never_by, fails, step_twice, step_left, step_right, step_many, many_more, sees_strict, reached_here, reached_made, sees_unseen, shallow_here, way_made, arrived_way, reached_whole}
 use Rattle.px_parser.proofs.ReadingSteps.{read_of, read_after, read_before, step_front, step_back, step_made, step_word, step_after, step_before, step_end, step_ends, ended_stuck, stuck_of}
 use Rattle.px_parser.proofs.Heads.{Heads, HeadsUpTo, head_here, head_ends_arms, IsOther, head_carried}
+use Rattle.px_parser.proofs.CompoundShapes
 use Rattle.px_parser.proofs.BlockShapes
 use Rattle.px_parser.proofs.CompoundSteps.{good_if, good_while, good_for, good_with, GoneOn, gone_reads, local_arms}
 use Rattle.px_parser.proofs.SimpleShapes.{good_line, only_line, good_simple, solid_simple}
@@ -56,16 +57,16 @@ low_off n m lt ts us i agree a b = omega (arith, head_carried ts us i agree, a, 
 
 -- no form that begins otherwise stands there
 no_if : (ts : List Terminal) (i : ℕ) → HeadsUpTo 4 ts i → Never (Of alone (If Block)) EndsArms ts i
-no_if ts i h us agree mode t n j x s = omega (arith, head_carried ts us i agree, h, (BlockShapes.leads_if Block {R = Anywhere}).leads x.read tt)
+no_if ts i h us agree mode t n j x s = omega (arith, head_carried ts us i agree, h, (CompoundShapes.leads_if Block {R = Anywhere}).leads x.read tt)
 
 no_while : (ts : List Terminal) (i : ℕ) → HeadsUpTo 3 ts i → Never (Of alone (While Block)) EndsArms ts i
-no_while ts i h us agree mode t n j x s = omega (arith, head_carried ts us i agree, h, (BlockShapes.leads_while Block {R = Anywhere}).leads x.read tt)
+no_while ts i h us agree mode t n j x s = omega (arith, head_carried ts us i agree, h, (CompoundShapes.leads_while Block {R = Anywhere}).leads x.read tt)
 
 no_for : (ts : List Terminal) (i : ℕ) → HeadsUpTo 2 ts i → Never (Of alone (For Block)) EndsArms ts i
-no_for ts i h us agree mode t n j x s = omega (arith, head_carried ts us i agree, h, (BlockShapes.leads_for Block {R = Anywhere}).leads x.read tt)
+no_for ts i h us agree mode t n j x s = omega (arith, head_carried ts us i agree, h, (CompoundShapes.leads_for Block {R = Anywhere}).leads x.read tt)
 
 no_with : (ts : List Terminal) (i : ℕ) → HeadsUpTo 1 ts i → Never (Of alone (With Block)) EndsArms ts i
-no_with ts i h us agree mode t n j x s = omega (arith, head_carried ts us i agree, h, (BlockShapes.leads_with Block {R = Anywhere}).leads x.read tt)
+no_with ts i h us agree mode t n j x s = omega (arith, head_carried ts us i agree, h, (CompoundShapes.leads_with Block {R = Anywhere}).leads x.read tt)
 
 -- where a statement has this form, what is read of the form is read of the statement
 pub record Places (X : Shape (List Stmt)) (ts : List Terminal) (i room : ℕ) : Type 0 where
@@ -149,7 +150,7 @@ single_joined {ts = ts} all joint found good only places reading is same result 
 pub if_joined : {ts : List Terminal} {i room : ℕ} (all : List Stmt) (joint found : Found Stmt) → IsReading (If Block) EndsArms ts i room found.tree found.to → joint ≡ found → all ≡ joint.tree ∷ []
     → (result : Result (Found (List Stmt)) Unread) → GoneOn ts all joint.to result → Reads Statement EndsArms ts i room result
 if_joined {ts} {i} all joint found reading is same result h =
-    let head : Heads 5 ts i = (BlockShapes.leads_if Block {R = Anywhere}).leads reading.derived tt in
+    let head : Heads 5 ts i = (CompoundShapes.leads_if Block {R = Anywhere}).leads reading.derived tt in
     if_read all head reading (same ∙ ap (λ f. f.tree ∷ []) is) result (subst (λ f. GoneOn ts all f.to result) is h)
 
 pub single_refused : {X : Shape Stmt} {ts : List Terminal} {i room : ℕ} → Good X → Places (Of alone X) ts i room → (u : Unread) → IsUnread X Anywhere ts i room u → IsUnread Statement EndsArms ts i room u
@@ -174,9 +175,9 @@ pub places_line : (ts : List Terminal) (i room : ℕ) → IsOther ts i → Place
 unfolding Statement StatementWith
 places_line ts i room off = record {
   step = step_twice (step_right ts i room good_line.rises (never_single ts i declare_head (no_head ts i 1 (omega arith) (omega arith) off)))
-      (step_twice (step_right ts i room good_declare_line.rises (never_single ts i (BlockShapes.leads_with Block) (no_head ts i 2 (omega arith) (omega arith) off)))
-      (step_twice (step_right ts i room good_after_for.rises (never_single ts i (BlockShapes.leads_for Block) (no_head ts i 3 (omega arith) (omega arith) off)))
-      (step_twice (step_right ts i room good_after_while.rises (never_single ts i (BlockShapes.leads_while Block) (no_head ts i 4 (omega arith) (omega arith) off))) (step_right ts i room good_after_if.rises (never_single ts i (BlockShapes.leads_if Block) (no_head ts i 5 (omega arith) (omega arith) off))))));
+      (step_twice (step_right ts i room good_declare_line.rises (never_single ts i (CompoundShapes.leads_with Block) (no_head ts i 2 (omega arith) (omega arith) off)))
+      (step_twice (step_right ts i room good_after_for.rises (never_single ts i (CompoundShapes.leads_for Block) (no_head ts i 3 (omega arith) (omega arith) off)))
+      (step_twice (step_right ts i room good_after_while.rises (never_single ts i (CompoundShapes.leads_while Block) (no_head ts i 4 (omega arith) (omega arith) off))) (step_right ts i room good_after_if.rises (never_single ts i (CompoundShapes.leads_if Block) (no_head ts i 5 (omega arith) (omega arith) off))))));
   into = λ t j x. Either.right (Either.right (Either.right (Either.right (Either.right x))));
 }
 
@@ -299,10 +300,6 @@ good_inner = good_before _ good_statements
 
 good_deeper : Good Deeper
 good_deeper = good_after _ good_inner
-
-pub good_indented : Good (IndentedWith Block)
-unfolding IndentedWith
-good_indented = good_after _ good_deeper
 
 abbrev IsToken : TokenKind → List Terminal → ℕ → ℕ → ℕ → Type 0
 IsToken k ts i room l = IsReading (Token k) Anywhere ts i room tt l

@@ -16,7 +16,7 @@ use Rattle.px_exprs.specs.Inputs.{terminals_of}
 use Rattle.px_exprs.specs.Words.{IsStuckAt}
 use Rattle.px_parser.specs.declared.readings.Found.{Found}
 use Rattle.px_parser.specs.Listings.{IsListing}
-use Rattle.px_parser.proofs.TokenSteps.{step_here, here_by}
+use Rattle.px_parser.proofs.TokenSteps.{here_by}
 use Rattle.px_parser.proofs.TokenShapes.{unread_at}
 use Rattle.px_exprs.specs.Terminals.{Terminal, IsKeyword, IsOperator, IsName, IsAt}
 use Rattle.px_exprs.specs.Codes.{Past}
@@ -30,12 +30,15 @@ use Rattle.px_parser.specs.Readings.{IsReading, IsStuck, Reads, Anywhere}
 use Rattle.px_parser.specs.Ends.{EndsExprs, EndsArms, EndsElifs, IsBefore}
 use Rattle.px_parser.specs.StatementGrammar.{IsWithinLimit, Exprs, LoopTargets, Body, Guarded, Armed, If, While, For, LockWord, With, Block, arm_of, if_of, statement_node}
 use Rattle.px_parser.proofs.Shapely.{Good, good_here, good_seq, good_of, good_placed, good_many, good_maybe, good_after, good_before, good_either, good_soft}
-use Rattle.px_parser.proofs.Onlies.{Leads, Clash, Only, only_narrower, leads_anywhere, leads_wider, only_before, only_here, only_after, only_of}
+use Rattle.px_parser.proofs.Onlies.{Leads, Clash, Only, leads_anywhere, leads_wider, only_before, only_here, only_after, only_of}
 use Rattle.px_parser.proofs.Steps.{Step, Never, Local, Alike, step_twice, step_alike, step_many, many_more, stuck_here, step_narrower}
 use Rattle.px_parser.proofs.ExprShapes.{good_expr, only_expr, good_exprs, only_exprs}
 use Rattle.px_parser.proofs.ReadingSteps.{read_both, read_of, read_left, read_right, read_after, read_placed, read_end, read_absent, step_front, step_back, step_made, step_word, step_after, step_numbered_end, step_placed, step_or, ended_stuck, stuck_of, kind_read, spelled_read}
+use Rattle.px_parser.proofs.KindLaws.{solid_after}
+use Rattle.px_parser.proofs.CompoundShapes
 use Rattle.px_parser.proofs.BlockShapes
 use Rattle.px_parser.proofs.TargetsOnly.{good_loop_targets, only_loop_targets}
+use Rattle.px_parser.proofs.PartSteps.{step_here}
 
 -- ':' block
 
@@ -82,14 +85,14 @@ good_tested : Good Tested
 good_tested = good_seq good_expr good_body
 
 leads_body_past : Leads (Body Block) Anywhere (Past 26)
-leads_body_past = leads_wider (BlockShapes.leads_body Block {R = Anywhere}) BlockShapes.colon_past
+leads_body_past = leads_wider (CompoundShapes.leads_body Block {R = Anywhere}) CompoundShapes.colon_past
 
 pub good_guarded : (w : Keyword) → Good (Guarded w Block)
 unfolding Guarded
-good_guarded w = good_placed (BlockShapes.solid_after _ good_tested.sound) (good_after _ good_tested)
+good_guarded w = good_placed (solid_after _ good_tested.sound) (good_after _ good_tested)
 
 placed_guarded : (w : Keyword) (ts : List Terminal) (i room : ℕ) → Step (After (kind.Keyword w) Tested) Anywhere (Placed (After (kind.Keyword w) Tested)) Anywhere ts i i room
-placed_guarded w ts i room = step_placed (good_after _ good_tested) (BlockShapes.solid_after _ good_tested.sound)
+placed_guarded w ts i room = step_placed (good_after _ good_tested) (solid_after _ good_tested.sound)
 
 pub step_guarded_word : (w : Keyword) (ts : List Terminal) (i room : ℕ) → Step (Token (kind.Keyword w)) Anywhere (Guarded w Block) Anywhere ts i i room
 unfolding Guarded
@@ -146,9 +149,9 @@ good_elif : Good ElifArm
 good_elif = good_of _ (good_armed word.Elif)
 
 only_elif : Only ElifArm Anywhere
-only_elif = only_of _ (BlockShapes.only_armed word.Elif BlockShapes.sound_block BlockShapes.only_block)
+only_elif = only_of _ (CompoundShapes.only_armed word.Elif BlockShapes.sound_block BlockShapes.only_block)
 
-pub good_elifs : Good (BlockShapes.Elifs Block)
+pub good_elifs : Good (CompoundShapes.Elifs Block)
 good_elifs = good_many good_elif
 
 -- the parts that were read
@@ -163,13 +166,13 @@ pub elifs_on : {ts : List Terminal} {i l j room : ℕ} {arms : List Arm} {p : Sp
     → AreElifs ts i room (arms ++ arm_of (l, p) ∷ []) j
 elifs_on {l = l} {p = p} front next = record { read = many_more front.read (record { inner = (l, p); read = (armed_read word.Elif next).derived; tree = refl }); within = next.within }
 
-pub elifs_refused : {ts : List Terminal} {i l room : ℕ} {arms : List Arm} → AreElifs ts i room arms l → IsKeyword ts l word.Elif → Step (Guarded word.Elif Block) Anywhere (BlockShapes.Elifs Block) EndsElifs ts i l room
+pub elifs_refused : {ts : List Terminal} {i l room : ℕ} {arms : List Arm} → AreElifs ts i room arms l → IsKeyword ts l word.Elif → Step (Guarded word.Elif Block) Anywhere (CompoundShapes.Elifs Block) EndsElifs ts i l room
 elifs_refused {ts} {i} {l} {room} {arms} front elif_ =
     step_twice (step_twice (step_armed word.Elif ts l room) (step_made arm_of (good_armed word.Elif)))
-    (step_many {S = EndsElifs} ts i l room arms good_elif.sound good_elif.rises only_elif (BlockShapes.leads_elif Block) BlockShapes.elif_is_no_end (λ us k h. tt) (λ us k h. tt) front.read (inr tt)
+    (step_many {S = EndsElifs} ts i l room arms good_elif.sound good_elif.rises only_elif (CompoundShapes.leads_elif Block) CompoundShapes.elif_is_no_end (λ us k h. tt) (λ us k h. tt) front.read (inr tt)
     (λ us agree none. none (kind_carried (suc l) agree elif_ (omega arith))))
 
-pub elifs_read : {ts : List Terminal} {i l room : ℕ} {arms : List Arm} → AreElifs ts i room arms l → (IsKeyword ts l word.Elif → ⊥) → IsReading (BlockShapes.Elifs Block) EndsElifs ts i room arms l
+pub elifs_read : {ts : List Terminal} {i l room : ℕ} {arms : List Arm} → AreElifs ts i room arms l → (IsKeyword ts l word.Elif → ⊥) → IsReading (CompoundShapes.Elifs Block) EndsElifs ts i room arms l
 elifs_read front none = record { derived = front.read; stops = none; within = front.within }
 
 -- ['else' ':' block]
@@ -186,7 +189,7 @@ ElsePart = After (kind.Keyword word.Else) ElseBlock
 good_else_part : Good ElsePart
 good_else_part = good_after _ good_else_block
 
-pub good_otherwise : Good (BlockShapes.Otherwise Block)
+pub good_otherwise : Good (CompoundShapes.Otherwise Block)
 good_otherwise = good_maybe good_else_part
 
 -- the tree of a body without the number of its colon
@@ -218,24 +221,21 @@ alike_body = record {
   back = λ {i} {u} h. ((i, u), block_body h);
 }
 
-pub only_otherwise_arms : Only (BlockShapes.Otherwise Block) EndsArms
-only_otherwise_arms = only_narrower (BlockShapes.only_otherwise BlockShapes.sound_block BlockShapes.only_block) (λ ts i h. h.1)
-
-pub else_is_no_arms_end : Clash BlockShapes.IsElse EndsArms
+pub else_is_no_arms_end : Clash CompoundShapes.IsElse EndsArms
 else_is_no_arms_end ts us i agree h none = none.1 (kind_carried (suc i) agree h (omega arith))
 
-else_step : {ts : List Terminal} {i l room : ℕ} {t : Unit {0}} → IsReading (Token (kind.Keyword word.Else)) Anywhere ts i room t l → Step ElseBlock EndsArms (BlockShapes.Otherwise Block) EndsArms ts i l room
+else_step : {ts : List Terminal} {i l room : ℕ} {t : Unit {0}} → IsReading (Token (kind.Keyword word.Else)) Anywhere ts i room t l → Step ElseBlock EndsArms (CompoundShapes.Otherwise Block) EndsArms ts i l room
 else_step token =
     let stands : IsKeyword _ _ word.Else = token.derived.stands in
     step_twice (step_after (kind.Keyword word.Else) good_else_block token) (step_twice (step_made Some good_else_part) (step_or None (good_of Some good_else_part) else_is_no_arms_end stands))
 
-pub otherwise_refused : {ts : List Terminal} {i l room : ℕ} {t : Unit {0}} → IsReading (Token (kind.Keyword word.Else)) Anywhere ts i room t l → Step (Body Block) Anywhere (BlockShapes.Otherwise Block) EndsArms ts i l room
+pub otherwise_refused : {ts : List Terminal} {i l room : ℕ} {t : Unit {0}} → IsReading (Token (kind.Keyword word.Else)) Anywhere ts i room t l → Step (Body Block) Anywhere (CompoundShapes.Otherwise Block) EndsArms ts i l room
 otherwise_refused {ts} {i} {l} {room} token =
     step_twice (step_twice (step_narrower ts l room good_body.rises (λ us k h. tt)) (step_alike EndsArms ts l room good_body.rises alike_body)) (else_step token)
 
 -- the `else` part was read, up to where another may not stand
 pub otherwise_read : {ts : List Terminal} {i l j room : ℕ} {t : Unit {0}} {body : ℕ × List Stmt} → IsReading (Token (kind.Keyword word.Else)) Anywhere ts i room t l → IsReading (Body Block) Anywhere ts l room body j
-    → EndsArms ts j → IsReading (BlockShapes.Otherwise Block) EndsArms ts i room (Some body.1) j
+    → EndsArms ts j → IsReading (CompoundShapes.Otherwise Block) EndsArms ts i room (Some body.1) j
 otherwise_read {l = l} {body = body} token whole ends = record {
   derived = Either.left (record { inner = body.1; read = record { inner = (tt, body.1); read = record { middle = l; first = token.derived; second = body_block _ _ _ _ _ body whole.derived }; tree = refl }; tree = refl });
   stops = ends;
@@ -246,16 +246,16 @@ pub local_arms : Local EndsArms
 local_arms ts us i agree ends = (λ h. ends.0 (kind_carried (suc i) agree h (omega arith)), λ h. ends.1 (kind_carried (suc i) agree h (omega arith)))
 
 pub otherwise_stuck : {ts : List Terminal} {i l j room : ℕ} {t : Unit {0}} {body : ℕ × List Stmt} → IsReading (Token (kind.Keyword word.Else)) Anywhere ts i room t l → IsReading (Body Block) Anywhere ts l room body j
-    → (EndsArms ts j → ⊥) → IsStuck (BlockShapes.Otherwise Block) EndsArms ts i room j
+    → (EndsArms ts j → ⊥) → IsStuck (CompoundShapes.Otherwise Block) EndsArms ts i room j
 otherwise_stuck {ts} {i} {l} {j} {room} {body = body} token whole none =
     let block : IsReading ElseBlock Anywhere ts l room body.1 j = record { derived = body_block _ _ _ _ _ body whole.derived; stops = tt; within = whole.within } in
     stuck_of (else_step token) (ended_stuck good_else_block (only_after _ BlockShapes.sound_block BlockShapes.only_block) (λ us k h. tt) local_arms block none)
 
 -- no `else` stands there
-pub otherwise_absent : (ts : List Terminal) (i room : ℕ) → i < length ts → (IsKeyword ts i word.Else → ⊥) → (EndsArms ts i → ⊥) → IsStuck (BlockShapes.Otherwise Block) EndsArms ts i room i
+pub otherwise_absent : (ts : List Terminal) (i room : ℕ) → i < length ts → (IsKeyword ts i word.Else → ⊥) → (EndsArms ts i → ⊥) → IsStuck (CompoundShapes.Otherwise Block) EndsArms ts i room i
 otherwise_absent ts i room inside no_else none = stuck_here ts i room good_otherwise.fresh inside never
   where
-    never : Never (BlockShapes.Otherwise Block) EndsArms ts i
+    never : Never (CompoundShapes.Otherwise Block) EndsArms ts i
     never us agree mode t n j (Either.left h) stop = no_else (kind_carried (suc i) (agree_back us ts agree) h.read.read.first.stands (omega arith))
     never us agree mode t n j (Either.right h) stop = none (local_arms ts us i agree (subst (EndsArms us) h.end stop))
 
@@ -270,12 +270,12 @@ gone_reads {X = X} ts i room tree to (Ok found) read stuck h =
     subst (λ t. IsReading X EndsArms ts i room t found.to) (sym h.0) (subst (λ k. IsReading X EndsArms ts i room tree k) (sym h.1) (read h.2))
 gone_reads ts i room tree to (Err u) read stuck h = unread_at u h.0 (stuck h.1)
 
-pub otherwise_none : (ts : List Terminal) (i room : ℕ) → i < length ts → (IsKeyword ts i word.Else → ⊥) → (result : Result (Found (Option (List Stmt))) Unread) → GoneOn ts None i result → Reads (BlockShapes.Otherwise Block) EndsArms ts i room result
+pub otherwise_none : (ts : List Terminal) (i room : ℕ) → i < length ts → (IsKeyword ts i word.Else → ⊥) → (result : Result (Found (Option (List Stmt))) Unread) → GoneOn ts None i result → Reads (CompoundShapes.Otherwise Block) EndsArms ts i room result
 otherwise_none ts i room inside no_else result h =
     gone_reads ts i room None i result (λ ends. read_absent (Of Some ElsePart) None ends inside) (λ none. otherwise_absent ts i room inside no_else none) h
 
 pub otherwise_gone_on : {ts : List Terminal} {i l j room : ℕ} {t : Unit {0}} {body : ℕ × List Stmt} → IsReading (Token (kind.Keyword word.Else)) Anywhere ts i room t l → IsReading (Body Block) Anywhere ts l room body j
-    → (result : Result (Found (Option (List Stmt))) Unread) → GoneOn ts (Some body.1) j result → Reads (BlockShapes.Otherwise Block) EndsArms ts i room result
+    → (result : Result (Found (Option (List Stmt))) Unread) → GoneOn ts (Some body.1) j result → Reads (CompoundShapes.Otherwise Block) EndsArms ts i room result
 otherwise_gone_on {ts} {i} {l} {j} {room} {body = body} token whole result h =
     gone_reads ts i room (Some body.1) j result (λ ends. otherwise_read token whole ends) (λ none. otherwise_stuck token whole none) h
 
@@ -284,11 +284,11 @@ else_read tokens i room listing h = kind_read tokens i (i + 1) room listing h (�
 
 -- if
 
-good_arms : Good (Seq (BlockShapes.Elifs Block) (BlockShapes.Otherwise Block))
+good_arms : Good (Seq (CompoundShapes.Elifs Block) (CompoundShapes.Otherwise Block))
 good_arms = good_seq good_elifs good_otherwise
 
 abbrev IfParts : Shape ((ℕ × (Span × (Expr × (ℕ × List Stmt)))) × (List Arm × Option (List Stmt)))
-IfParts = Seq (Armed word.If Block) (Seq (BlockShapes.Elifs Block) (BlockShapes.Otherwise Block))
+IfParts = Seq (Armed word.If Block) (Seq (CompoundShapes.Elifs Block) (CompoundShapes.Otherwise Block))
 
 good_if_parts : Good IfParts
 good_if_parts = good_seq (good_armed word.If) good_arms
@@ -298,28 +298,28 @@ unfolding If
 good_if = good_of _ good_if_parts
 
 only_first_if : Only (Armed word.If Block) Anywhere
-only_first_if = BlockShapes.only_armed word.If BlockShapes.sound_block BlockShapes.only_block
+only_first_if = CompoundShapes.only_armed word.If BlockShapes.sound_block BlockShapes.only_block
 
-only_block_elifs : Only (BlockShapes.Elifs Block) EndsElifs
-only_block_elifs = BlockShapes.only_elifs BlockShapes.sound_block BlockShapes.only_block
+only_block_elifs : Only (CompoundShapes.Elifs Block) EndsElifs
+only_block_elifs = CompoundShapes.only_elifs BlockShapes.sound_block BlockShapes.only_block
 
 pub step_if_first : (ts : List Terminal) (i room : ℕ) → Step (Guarded word.If Block) Anywhere (If Block) EndsArms ts i i room
 unfolding If
-step_if_first ts i room = step_twice (step_armed word.If ts i room) (step_twice (step_front (good_armed word.If) good_arms (leads_anywhere (Seq (BlockShapes.Elifs Block) (BlockShapes.Otherwise Block)) EndsArms)) (step_made _ good_if_parts))
+step_if_first ts i room = step_twice (step_armed word.If ts i room) (step_twice (step_front (good_armed word.If) good_arms (leads_anywhere (Seq (CompoundShapes.Elifs Block) (CompoundShapes.Otherwise Block)) EndsArms)) (step_made _ good_if_parts))
 
 abbrev FirstPart : Type 0
 FirstPart = Span × (Expr × (ℕ × List Stmt))
 
-arms_step : {ts : List Terminal} {i l room : ℕ} {p : FirstPart} → IsReading (Guarded word.If Block) Anywhere ts i room p l → Step (Seq (BlockShapes.Elifs Block) (BlockShapes.Otherwise Block)) EndsArms (If Block) EndsArms ts i l room
+arms_step : {ts : List Terminal} {i l room : ℕ} {p : FirstPart} → IsReading (Guarded word.If Block) Anywhere ts i room p l → Step (Seq (CompoundShapes.Elifs Block) (CompoundShapes.Otherwise Block)) EndsArms (If Block) EndsArms ts i l room
 unfolding If
-arms_step first = step_twice (step_back (good_armed word.If) good_arms only_first_if (leads_anywhere (Seq (BlockShapes.Elifs Block) (BlockShapes.Otherwise Block)) EndsArms) (armed_read word.If first)) (step_made _ good_if_parts)
+arms_step first = step_twice (step_back (good_armed word.If) good_arms only_first_if (leads_anywhere (Seq (CompoundShapes.Elifs Block) (CompoundShapes.Otherwise Block)) EndsArms) (armed_read word.If first)) (step_made _ good_if_parts)
 
-pub step_if_elifs : {ts : List Terminal} {i l room : ℕ} {p : FirstPart} → IsReading (Guarded word.If Block) Anywhere ts i room p l → Step (BlockShapes.Elifs Block) EndsElifs (If Block) EndsArms ts i l room
-step_if_elifs first = step_twice (step_front good_elifs good_otherwise (BlockShapes.leads_otherwise Block)) (arms_step first)
+pub step_if_elifs : {ts : List Terminal} {i l room : ℕ} {p : FirstPart} → IsReading (Guarded word.If Block) Anywhere ts i room p l → Step (CompoundShapes.Elifs Block) EndsElifs (If Block) EndsArms ts i l room
+step_if_elifs first = step_twice (step_front good_elifs good_otherwise (CompoundShapes.leads_otherwise Block)) (arms_step first)
 
-pub step_if_otherwise : {ts : List Terminal} {i l m room : ℕ} {p : FirstPart} {arms : List Arm} → IsReading (Guarded word.If Block) Anywhere ts i room p l → IsReading (BlockShapes.Elifs Block) EndsElifs ts l room arms m
-    → Step (BlockShapes.Otherwise Block) EndsArms (If Block) EndsArms ts i m room
-step_if_otherwise first others = step_twice (step_back good_elifs good_otherwise only_block_elifs (BlockShapes.leads_otherwise Block) others) (arms_step first)
+pub step_if_otherwise : {ts : List Terminal} {i l m room : ℕ} {p : FirstPart} {arms : List Arm} → IsReading (Guarded word.If Block) Anywhere ts i room p l → IsReading (CompoundShapes.Elifs Block) EndsElifs ts l room arms m
+    → Step (CompoundShapes.Otherwise Block) EndsArms (If Block) EndsArms ts i m room
+step_if_otherwise first others = step_twice (step_back good_elifs good_otherwise only_block_elifs (CompoundShapes.leads_otherwise Block) others) (arms_step first)
 
 first_place : {ts : List Terminal} {i l room : ℕ} {p : FirstPart} (w : Keyword) → IsReading (Guarded w Block) Anywhere ts i room p l → IsAt ts i p.0
 unfolding Guarded
@@ -329,13 +329,13 @@ first_place w h = h.derived.first.placed
 pub one_start : {ts : List Terminal} {i l room : ℕ} {p : FirstPart} {at : Span} (w : Keyword) → IsReading (Guarded w Block) Anywhere ts i room p l → IsAt ts i at → at ≡ p.0
 one_start w h at = one_place at (first_place w h)
 
-pub read_if : {ts : List Terminal} {i l m j room : ℕ} {p : FirstPart} {arms : List Arm} {otherwise : Option (List Stmt)} → IsReading (Guarded word.If Block) Anywhere ts i room p l → IsReading (BlockShapes.Elifs Block) EndsElifs ts l room arms m
-    → IsReading (BlockShapes.Otherwise Block) EndsArms ts m room otherwise j → IsReading (If Block) EndsArms ts i room (if_of (i, p) arms otherwise) j
+pub read_if : {ts : List Terminal} {i l m j room : ℕ} {p : FirstPart} {arms : List Arm} {otherwise : Option (List Stmt)} → IsReading (Guarded word.If Block) Anywhere ts i room p l → IsReading (CompoundShapes.Elifs Block) EndsElifs ts l room arms m
+    → IsReading (CompoundShapes.Otherwise Block) EndsArms ts m room otherwise j → IsReading (If Block) EndsArms ts i room (if_of (i, p) arms otherwise) j
 unfolding If
 read_if first others otherwise = read_of (λ q. if_of q.0 q.1.0 q.1.1) (read_both (armed_read word.If first) (read_both others otherwise))
 
 pub if_built : {ts : List Terminal} {i l m j room : ℕ} {p : FirstPart} {others arms : List Arm} {otherwise : Option (List Stmt)} {at : Span} {made : Stmt} → IsReading (Guarded word.If Block) Anywhere ts i room p l
-    → IsReading (BlockShapes.Elifs Block) EndsElifs ts l room others m → IsReading (BlockShapes.Otherwise Block) EndsArms ts m room otherwise j → IsAt ts i at → arms ≡ arm_of (i, p) ∷ others
+    → IsReading (CompoundShapes.Elifs Block) EndsElifs ts l room others m → IsReading (CompoundShapes.Otherwise Block) EndsArms ts m room otherwise j → IsAt ts i at → arms ≡ arm_of (i, p) ∷ others
     → made ≡ statement_node p.1.1.0 at (statement.If arms otherwise) → IsReading (If Block) EndsArms ts i room made j
 if_built {ts} {i} {l} {m} {j} {room} {p} {others} {arms} {otherwise} {at} {made} first more rest place all same =
     let moved : made ≡ if_of (i, p) others otherwise = same ∙ ap (λ a. statement_node p.1.1.0 a (statement.If arms otherwise)) (one_start word.If first place) ∙ ap (λ a. statement_node p.1.1.0 p.0 (statement.If a otherwise)) all in
@@ -365,22 +365,22 @@ while_built {ts} {i} {j} {room} {p} {at} {made} whole place same =
 
 -- for
 
-good_for_value : Good (BlockShapes.ForValue Block)
+good_for_value : Good (CompoundShapes.ForValue Block)
 good_for_value = good_seq good_exprs good_body
 
-good_for_in : Good (BlockShapes.ForIn Block)
+good_for_in : Good (CompoundShapes.ForIn Block)
 good_for_in = good_after _ good_for_value
 
-good_for_rest : Good (BlockShapes.ForRest Block)
+good_for_rest : Good (CompoundShapes.ForRest Block)
 good_for_rest = good_seq good_loop_targets good_for_in
 
 pub good_for : Good (For Block)
 unfolding For
-good_for = good_of _ (good_placed (BlockShapes.solid_after _ good_for_rest.sound) (good_after _ good_for_rest))
+good_for = good_of _ (good_placed (solid_after _ good_for_rest.sound) (good_after _ good_for_rest))
 
-rest_step : {ts : List Terminal} {i room : ℕ} → Step (After (kind.Keyword word.For) (BlockShapes.ForRest Block)) Anywhere (For Block) Anywhere ts i i room
+rest_step : {ts : List Terminal} {i room : ℕ} → Step (After (kind.Keyword word.For) (CompoundShapes.ForRest Block)) Anywhere (For Block) Anywhere ts i i room
 unfolding For
-rest_step = step_twice (step_placed (good_after _ good_for_rest) (BlockShapes.solid_after _ good_for_rest.sound)) (step_made _ (good_placed (BlockShapes.solid_after _ good_for_rest.sound) (good_after _ good_for_rest)))
+rest_step = step_twice (step_placed (good_after _ good_for_rest) (solid_after _ good_for_rest.sound)) (step_made _ (good_placed (solid_after _ good_for_rest.sound) (good_after _ good_for_rest)))
 
 abbrev IsFor : List Terminal → ℕ → ℕ → ℕ → Type 0
 IsFor ts i room l = IsReading (Token (kind.Keyword word.For)) Anywhere ts i room tt l
@@ -394,23 +394,23 @@ AreLoopTargets ts i room e l = IsReading LoopTargets (IsBefore (kind.Keyword wor
 pub step_for_word : (ts : List Terminal) (i room : ℕ) → Step (Token (kind.Keyword word.For)) Anywhere (For Block) Anywhere ts i i room
 step_for_word ts i room = step_twice (step_word (kind.Keyword word.For) good_for_rest) rest_step
 
-behind_for : {ts : List Terminal} {i l room : ℕ} → IsFor ts i room l → Step (BlockShapes.ForRest Block) Anywhere (For Block) Anywhere ts i l room
+behind_for : {ts : List Terminal} {i l room : ℕ} → IsFor ts i room l → Step (CompoundShapes.ForRest Block) Anywhere (For Block) Anywhere ts i l room
 behind_for for_ = step_twice (step_after (kind.Keyword word.For) good_for_rest for_) rest_step
 
 pub step_for_target : {ts : List Terminal} {i l room : ℕ} → IsFor ts i room l → Step LoopTargets (IsBefore (kind.Keyword word.In)) (For Block) Anywhere ts i l room
-step_for_target for_ = step_twice (step_front good_loop_targets good_for_in (BlockShapes.leads_for_in Block)) (behind_for for_)
+step_for_target for_ = step_twice (step_front good_loop_targets good_for_in (CompoundShapes.leads_for_in Block)) (behind_for for_)
 
-behind_target : {ts : List Terminal} {i l m room : ℕ} {e : Expr} → IsFor ts i room l → AreLoopTargets ts l room e m → Step (BlockShapes.ForIn Block) Anywhere (For Block) Anywhere ts i m room
-behind_target for_ target = step_twice (step_back good_loop_targets good_for_in only_loop_targets (BlockShapes.leads_for_in Block) target) (behind_for for_)
+behind_target : {ts : List Terminal} {i l m room : ℕ} {e : Expr} → IsFor ts i room l → AreLoopTargets ts l room e m → Step (CompoundShapes.ForIn Block) Anywhere (For Block) Anywhere ts i m room
+behind_target for_ target = step_twice (step_back good_loop_targets good_for_in only_loop_targets (CompoundShapes.leads_for_in Block) target) (behind_for for_)
 
 pub step_for_in : {ts : List Terminal} {i l m room : ℕ} {e : Expr} → IsFor ts i room l → AreLoopTargets ts l room e m → Step (Token (kind.Keyword word.In)) Anywhere (For Block) Anywhere ts i m room
 step_for_in for_ target = step_twice (step_word (kind.Keyword word.In) good_for_value) (behind_target for_ target)
 
-behind_in : {ts : List Terminal} {i l m n room : ℕ} {e : Expr} → IsFor ts i room l → AreLoopTargets ts l room e m → IsIn ts m room n → Step (BlockShapes.ForValue Block) Anywhere (For Block) Anywhere ts i n room
+behind_in : {ts : List Terminal} {i l m n room : ℕ} {e : Expr} → IsFor ts i room l → AreLoopTargets ts l room e m → IsIn ts m room n → Step (CompoundShapes.ForValue Block) Anywhere (For Block) Anywhere ts i n room
 behind_in for_ target in_ = step_twice (step_after (kind.Keyword word.In) good_for_value in_) (behind_target for_ target)
 
 leads_body_ends : Leads (Body Block) Anywhere EndsExprs
-leads_body_ends = leads_wider (BlockShapes.leads_body Block {R = Anywhere}) BlockShapes.colon_ends_exprs
+leads_body_ends = leads_wider (CompoundShapes.leads_body Block {R = Anywhere}) CompoundShapes.colon_ends_exprs
 
 pub step_for_value : {ts : List Terminal} {i l m n room : ℕ} {e : Expr} → IsFor ts i room l → AreLoopTargets ts l room e m → IsIn ts m room n → Step Exprs EndsExprs (For Block) Anywhere ts i n room
 step_for_value for_ target in_ = step_twice (step_front good_exprs good_body leads_body_ends) (behind_in for_ target in_)
@@ -425,9 +425,11 @@ read_for {e = e} {f} {body} {at} place for_ target in_ value whole =
     read_of (λ p. statement_node p.1.1.1.0 p.0 (statement.For p.1.0 p.1.1.0 p.1.1.1.1))
     (read_placed place (read_after (kind.Keyword word.For) for_ (read_both target (read_after (kind.Keyword word.In) in_ (read_both value whole)))))
 
-pub for_built : {ts : List Terminal} {i l m n o j room : ℕ} {e f : Expr} {body : ℕ × List Stmt} {at : Span} {made : Stmt} → IsFor ts i room l → AreLoopTargets ts l room e m → IsIn ts m room n → IsReading Exprs EndsExprs ts n room f o
-    → IsReading (Body Block) Anywhere ts o room body j → IsAt ts i at → made ≡ statement_node body.0 at (statement.For e f body.1) → IsReading (For Block) Anywhere ts i room made j
-for_built {ts} {i} {j = j} {room} for_ target in_ value whole place same = subst (λ s. IsReading (For Block) Anywhere ts i room s j) (sym same) (read_for place for_ target in_ value whole)
+pub for_built : {ts : List Terminal} {i l m n o j room : ℕ} {e f g : Expr} {body : ℕ × List Stmt} {at : Span} {made : Stmt} → IsFor ts i room l → AreLoopTargets ts l room e m → IsIn ts m room n → IsReading Exprs EndsExprs ts n room f o
+    → IsReading (Body Block) Anywhere ts o room body j → IsAt ts i at → g ≡ f → made ≡ statement_node body.0 at (statement.For e g body.1) → IsReading (For Block) Anywhere ts i room made j
+for_built {ts} {i} {n = n} {o = o} {j = j} {room} for_ target in_ value whole place boxed same =
+    let there = subst (λ e. IsReading Exprs EndsExprs ts n room e o) (sym boxed) value in
+    subst (λ s. IsReading (For Block) Anywhere ts i room s j) (sym same) (read_for place for_ target in_ there whole)
 
 -- with
 
@@ -435,16 +437,16 @@ good_lock : Good LockWord
 unfolding LockWord
 good_lock = good_either (good_of _ (good_soft _)) (good_of _ (good_soft _))
 
-good_with_rest : Good (BlockShapes.WithRest Block)
+good_with_rest : Good (CompoundShapes.WithRest Block)
 good_with_rest = good_seq good_lock good_body
 
 pub good_with : Good (With Block)
 unfolding With
-good_with = good_of _ (good_placed (BlockShapes.solid_after _ good_with_rest.sound) (good_after _ good_with_rest))
+good_with = good_of _ (good_placed (solid_after _ good_with_rest.sound) (good_after _ good_with_rest))
 
-with_step : {ts : List Terminal} {i room : ℕ} → Step (After (kind.Keyword word.With) (BlockShapes.WithRest Block)) Anywhere (With Block) Anywhere ts i i room
+with_step : {ts : List Terminal} {i room : ℕ} → Step (After (kind.Keyword word.With) (CompoundShapes.WithRest Block)) Anywhere (With Block) Anywhere ts i i room
 unfolding With
-with_step = step_twice (step_placed (good_after _ good_with_rest) (BlockShapes.solid_after _ good_with_rest.sound)) (step_made _ (good_placed (BlockShapes.solid_after _ good_with_rest.sound) (good_after _ good_with_rest)))
+with_step = step_twice (step_placed (good_after _ good_with_rest) (solid_after _ good_with_rest.sound)) (step_made _ (good_placed (solid_after _ good_with_rest.sound) (good_after _ good_with_rest)))
 
 abbrev IsWith : List Terminal → ℕ → ℕ → ℕ → Type 0
 IsWith ts i room l = IsReading (Token (kind.Keyword word.With)) Anywhere ts i room tt l
@@ -455,14 +457,14 @@ Locks ts i room form l = IsReading LockWord Anywhere ts i room form l
 pub step_with_word : (ts : List Terminal) (i room : ℕ) → Step (Token (kind.Keyword word.With)) Anywhere (With Block) Anywhere ts i i room
 step_with_word ts i room = step_twice (step_word (kind.Keyword word.With) good_with_rest) with_step
 
-behind_with : {ts : List Terminal} {i l room : ℕ} → IsWith ts i room l → Step (BlockShapes.WithRest Block) Anywhere (With Block) Anywhere ts i l room
+behind_with : {ts : List Terminal} {i l room : ℕ} → IsWith ts i room l → Step (CompoundShapes.WithRest Block) Anywhere (With Block) Anywhere ts i l room
 behind_with with_ = step_twice (step_after (kind.Keyword word.With) good_with_rest with_) with_step
 
 pub step_with_lock : {ts : List Terminal} {i l room : ℕ} → IsWith ts i room l → Step LockWord Anywhere (With Block) Anywhere ts i l room
 step_with_lock with_ = step_twice (step_front good_lock good_body (leads_anywhere (Body Block) Anywhere)) (behind_with with_)
 
 pub step_with_body : {ts : List Terminal} {i l m room : ℕ} {form : List Stmt → StmtForm} → IsWith ts i room l → Locks ts l room form m → Step (Body Block) Anywhere (With Block) Anywhere ts i m room
-step_with_body with_ lock = step_twice (step_back good_lock good_body BlockShapes.only_lock (leads_anywhere (Body Block) Anywhere) lock) (behind_with with_)
+step_with_body with_ lock = step_twice (step_back good_lock good_body CompoundShapes.only_lock (leads_anywhere (Body Block) Anywhere) lock) (behind_with with_)
 
 pub read_with : {ts : List Terminal} {i l m j room : ℕ} {form : List Stmt → StmtForm} {body : ℕ × List Stmt} {at : Span} → IsAt ts i at → IsWith ts i room l → Locks ts l room form m → IsReading (Body Block) Anywhere ts m room body j
     → IsReading (With Block) Anywhere ts i room (statement_node body.0 at (form body.1)) j

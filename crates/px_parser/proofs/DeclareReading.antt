@@ -26,9 +26,10 @@ use Rattle.px_parser.specs.Parts.{TypedName, DeclRest}
 use Rattle.px_parser.proofs.Shapely.{good_seq, good_placed, good_here}
 use Rattle.px_parser.proofs.Onlies.{Only, leads_anywhere}
 use Rattle.px_parser.proofs.Steps.{Step, Never, fails, many_more, step_first, step_second, step_of, step_left, step_right, step_many, step_twice, step_alike}
-use Rattle.px_parser.proofs.TokenSteps.{after_read, before_read, counted_read, here_by, placed_by, step_after, step_before, step_behind, step_counted, step_here, step_placed, step_token, step_token_behind}
+use Rattle.px_parser.proofs.TokenSteps.{after_read, before_read, counted_read, here_by, placed_by, step_after, step_before, step_behind, step_counted, step_token, step_token_behind}
 use Rattle.px_parser.proofs.ForkSteps.{Nowhere, fails_beside}
 use Rattle.px_parser.proofs.VariableShapes.{IsNameThere, LineEnd, GroupLines, ToDedent, FromIndent, FromNewline, ColonHere, FromColon, CdefGroup, DeclaredRead, good_typed_name, only_typed_name, good_decl_rest, leads_decl_rest, good_declared_read, alike_declared, typed_opened, declared_opened, declared_made, declarator_of, good_declared, solid_declared, good_cdef_declared, solid_cdef_declared, good_declare_line, declare_line_begins, good_group_line, only_group_line, leads_group_line, good_more_lines, good_group_lines, only_group_lines, name_is_no_dedent, good_to_dedent, good_from_indent, good_from_newline, good_colon_here, only_colon_here, good_from_colon, good_cdef_group, solid_cdef_group, good_declare_group, declare_group_begins}
+use Rattle.px_parser.proofs.PartSteps.{step_placed, step_here}
 
 abbrev pub Variables : Type 0
 Variables = Typing × (List Declarator × ℕ)

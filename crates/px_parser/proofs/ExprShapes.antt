@@ -21,6 +21,7 @@ use Rattle.px_parser.specs.Parts.{ExprsRead}
 use Rattle.px_parser.specs.Ends.{EndsExprs}
 use Rattle.px_parser.proofs.Shapely.{Sound, Solid, FreshForm, GoodForm, Good, one_longer, sound_seq, sound_here, sound_maybe, sound_after, sound_elements, sound_listed, good_of, good_seq, good_here, good_placed, good_maybe, good_after, good_elements, good_nested}
 use Rattle.px_parser.proofs.Onlies.{Leads, Clash, Only, OnlyForm, leads_here, leads_either, leads_of, leads_after, leads_gives, leads_listed, leads_anywhere, only_of, only_placed, only_seq, only_here, only_maybe, only_after, only_or, only_listed, only_nested}
+use Rattle.px_parser.proofs.KindLaws.{solid_front}
 
 -- Expressions
 
@@ -93,14 +94,11 @@ Others X = Maybe (After (kind.Operator sign.Comma) (Elements (kind.Operator sign
 abbrev pub Commas : {A : Type 0} → Shape A → Shape (Span × (A × (ℕ × Option (List A))))
 Commas X = Placed (Seq X (Seq Here (Others X)))
 
-pub solid_first : {A B : Type 0} {X : Shape A} {Y : Shape B} → Solid X → Sound Y → Solid (Seq X Y)
-solid_first x y = record { grows = λ h. omega (arith, x.grows h.first, y.forward h.second) }
-
 pub good_others : {A : Type 0} {X : Shape A} → Good X → Good (Others X)
 good_others x = good_maybe (good_after _ (good_elements _ x))
 
 pub good_commas : {A : Type 0} {X : Shape A} → Solid X → Good X → Good (Commas X)
-good_commas solid x = good_placed (solid_first solid (sound_seq sound_here (good_others x).sound)) (good_seq x (good_seq good_here (good_others x)))
+good_commas solid x = good_placed (solid_front solid (sound_seq sound_here (good_others x).sound)) (good_seq x (good_seq good_here (good_others x)))
 
 -- Each element is read in one way before what holds at a comma and where a list ends.
 
@@ -125,20 +123,17 @@ pub only_commas : {A : Type 0} {X : Shape A} {M : Stops} → Solid X → Sound X
 only_commas {X = X} solid sound x leads comma ends =
     let others : Sound (Others X) = sound_maybe (sound_after _ (sound_elements _ sound)) in
     let behind = sound_seq sound_here others in
-    only_placed (solid_first solid behind)
+    only_placed (solid_front solid behind)
     (only_seq sound behind x (leads_others comma ends) (only_seq sound_here others (only_here Anywhere) (leads_anywhere (Others X) EndsExprs) (only_others sound x leads comma ends)))
 
 pub solid_commas : {A : Type 0} {X : Shape A} → Solid X → Sound X → Solid (Commas X)
 solid_commas {X = X} solid sound =
     let others : Sound (Others X) = sound_maybe (sound_after _ (sound_elements _ sound)) in
-    let first = solid_first solid (sound_seq sound_here others) in
+    let first = solid_front solid (sound_seq sound_here others) in
     record { grows = λ h. omega (arith, h.first.end, first.grows h.second) }
 
 pub good_other_exprs : Good (Elements (kind.Operator sign.Comma) IsWithinLimit)
 good_other_exprs = good_elements _ good_expr
-
-pub only_other_exprs : Only (Elements (kind.Operator sign.Comma) IsWithinLimit) EndsExprs
-only_other_exprs = only_elements good_expr.sound only_expr leads_expr (comma_past (omega arith)) (end_past (omega arith))
 
 pub good_expr_commas : Good (Commas IsWithinLimit)
 good_expr_commas = good_commas solid_expr good_expr

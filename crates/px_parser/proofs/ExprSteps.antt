@@ -19,11 +19,12 @@ use Rattle.px_parser.specs.Parts.{ExprsRead}
 use Rattle.px_parser.specs.Ends.{EndsExprs}
 use Rattle.px_parser.proofs.Shapely.{Good, good_after, good_here, good_of, good_seq, stands_there}
 use Rattle.px_parser.proofs.Onlies.{Leads}
-use Rattle.px_parser.proofs.ExprShapes.{Others, solid_first, good_expr, solid_expr, only_expr, good_others, good_other_exprs, good_expr_commas, leads_others, comma_is_no_end, comma_past, end_past}
+use Rattle.px_parser.proofs.ExprShapes.{Others, good_expr, solid_expr, only_expr, good_others, good_other_exprs, good_expr_commas, leads_others, comma_is_no_end, comma_past, end_past}
 use Rattle.px_parser.proofs.ListedSteps.{EndsIn}
 use Rattle.px_parser.proofs.ExprLists.{ends_local}
 use Rattle.px_parser.proofs.PartSteps.{step_placed, step_here, step_after}
 use Rattle.px_parser.proofs.Steps.{Step, Never, fails, stuck_here, step_first, step_second, step_of, step_left, step_twice}
+use Rattle.px_parser.proofs.KindLaws.{solid_front}
 
 good_behind : Good (Seq Here (Others IsWithinLimit))
 good_behind = good_seq good_here (good_others good_expr)
@@ -31,7 +32,7 @@ good_behind = good_seq good_here (good_others good_expr)
 pub first_step : (ts : List Terminal) (i room : ℕ) → Step IsWithinLimit (Past 26) ExprsRead EndsExprs ts i i room
 unfolding ExprsRead
 first_step ts i room =
-    let solid = solid_first solid_expr good_behind.sound in
+    let solid = solid_front solid_expr good_behind.sound in
     let good = good_seq good_expr good_behind in
     step_twice (step_first {Y = λ _. Seq Here (Others IsWithinLimit)} {S = Past 26} {R = EndsExprs} ts i room good_expr.sound good_expr.rises (λ _. good_behind.fresh) (λ _. leads_others (comma_past (omega arith)) (end_past (omega arith))))
     (step_twice (step_placed EndsExprs ts i room solid good.rises) (step_of _ EndsExprs ts i room good_expr_commas.rises))
@@ -40,7 +41,7 @@ first_step ts i room =
 behind_step : (ts : List Terminal) (i l room : ℕ) (t : Expr) → IsReading IsWithinLimit (Past 26) ts i room t l → Step (Seq Here (Others IsWithinLimit)) EndsExprs ExprsRead EndsExprs ts i l room
 unfolding ExprsRead
 behind_step ts i l room t reading =
-    let solid = solid_first solid_expr good_behind.sound in
+    let solid = solid_front solid_expr good_behind.sound in
     let good = good_seq good_expr good_behind in
     step_twice (step_second {Y = λ _. Seq Here (Others IsWithinLimit)} {M = Past 26} {R = EndsExprs} ts i l room t good_expr.sound good_expr.rises only_expr (λ _. leads_others (comma_past (omega arith)) (end_past (omega arith))) good_behind.rises
     reading.derived reading.stops)

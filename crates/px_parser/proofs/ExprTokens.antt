@@ -221,6 +221,3 @@ no_line_inside p = no_line (expr_inside p)
 
 pub no_line_in_primary : {ts : List Terminal} {i d j k : ℕ} {e : Expr} → IsPrimary ts i e d j → i ≤ k → k < j → HasKind ts k kind.Newline → ⊥
 no_line_in_primary p = no_line (primary_inside p)
-
-pub no_line_in_type : {ts : List Terminal} {i d j k : ℕ} {t : Typing} → IsTyping ts i t d j → i ≤ k → k < j → HasKind ts k kind.Newline → ⊥
-no_line_in_type p = no_line (typing_inside p)

@@ -1,15 +1,12 @@
 -- A form without blocks is the same form whatever the number of blocks that may stand round a token.
 use Rattle.std.proofs.Common.{ℕ, None}
 use Rattle.px_parser.specs.Shapes.{Mode, Shape}
-use Rattle.px_parser.specs.StatementGrammar.{IsWithinLimit, Exprs, Targets, LoopTargets, Augmented, Assignment, Augmentation, Return, Raise, Global, SimpleForm, Simple, Line, Decl, Decls, Declared, DeclareLine, GroupLine, DeclareGroup, Declare, LockWord}
+use Rattle.px_parser.specs.StatementGrammar.{Exprs, Targets, LoopTargets, Augmented, Assignment, Augmentation, Return, Raise, Global, SimpleForm, Simple, Line, Decl, Decls, Declared, DeclareLine, GroupLine, DeclareGroup, Declare, LockWord}
 use Rattle.px_parser.proofs.Shapely.{AtLeast, Rises, rises_name, rises_soft, rises_here, rises_gives, rises_seq, rises_placed, rises_either, rises_many, rises_listed, rises_of, rises_nested, rises_after, rises_before, rises_or, rises_maybe, rises_several, rises_separated, rises_elements}
 
 -- in a wider mode it holds too
 abbrev pub IsFlat : {A : Type 0} → Shape A → Type 0
 IsFlat X = (mode other : Mode) (n m : ℕ) → AtLeast mode other → Rises X X mode other n m
-
-pub flat_expr : IsFlat IsWithinLimit
-flat_expr mode other n m le = rises_nested _ le
 
 pub flat_exprs : IsFlat Exprs
 unfolding Exprs

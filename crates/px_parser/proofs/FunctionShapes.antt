@@ -29,12 +29,12 @@ use Rattle.px_exprs.proofs.Stops.{code_carried, kind_stops}
 use Rattle.px_exprs.proofs.Telling.{stop_here}
 use Rattle.px_exprs.proofs.TokenReading.{name_kind}
 use Rattle.px_exprs.proofs.TypeReading.{base_forward}
-use Rattle.px_parser.specs.Shapes.{Mode, Shape, Word, Sign, Name, Soft, Here, Placed, Then, Seq, Either, Many, Of, After, Before, Or, Maybe, Nested}
+use Rattle.px_parser.specs.Shapes.{Mode, Shape, Word, Sign, Name, Soft, Placed, Then, Seq, Either, Many, Of, After, Before, Or, Maybe, Nested}
 use Rattle.px_parser.specs.Readings.{Anywhere}
 use Rattle.px_parser.specs.Ends.{EndsName, EndsNames, EndsParameter, EndsDecorators, EndsException, IsBefore}
 use Rattle.px_parser.specs.StatementGrammar.{IsWithinLimit, Block}
 use Rattle.px_parser.specs.ModuleGrammar.{Numbered, Dotted, Truth, DecoratorLine, NotNone, Parameter, Parameters, Result, Exception, LockForm, CWord, DefHead, CHead, Tail, Rest, FunctionForm}
-use Rattle.px_parser.specs.Parts.{HeadRead, CHeadRead, Caught}
+use Rattle.px_parser.specs.Parts.{CHeadRead, Caught}
 use Rattle.px_parser.proofs.Shapely.{Solid, Good, good_token, good_soft, good_here, good_gives, good_seq, good_then, good_placed, good_either, good_many, good_of, good_after, good_before, good_or, good_elements, good_listed, sound_name, sound_here, sound_of, sound_token}
 use Rattle.px_parser.proofs.Onlies.{Leads, Clash, Only, leads_token, leads_then, leads_seq, leads_here, leads_placed, leads_of, leads_after, leads_either, leads_gives, leads_listed, leads_wider, leads_anywhere, only_token, only_name, only_soft, only_here, only_gives, only_placed, only_then, only_seq, only_of, only_either, only_many, only_listed, only_after, only_before, only_or, only_narrower}
 use Rattle.px_parser.proofs.ExprShapes.{good_expr, only_expr}
@@ -66,9 +66,6 @@ DecoratorCall = After (kind.Operator sign.OpenParenthesis) TruthLine
 
 abbrev pub DecoratorName : Shape (Span × (List (List ℕ) × Bool))
 DecoratorName = Placed (Seq Dotted DecoratorCall)
-
-abbrev pub DecoratorParts : Shape (ℕ × (Span × (Span × (List (List ℕ) × Bool))))
-DecoratorParts = Seq Here (Placed (After (kind.Operator sign.At) DecoratorName))
 
 pub good_truth_closed : Good TruthClosed
 good_truth_closed = good_before _ good_truth
@@ -509,18 +506,6 @@ def_or_c ts us i agree h (inr g) = kinds_apart (λ e. cc) ts us i agree h g
 
 pub only_some_head : Only SomeHead (IsBefore (kind.Operator sign.OpenParenthesis))
 only_some_head = only_either good_def_head.sound good_c_head.sound (only_def_head (IsBefore (kind.Operator sign.OpenParenthesis))) (only_narrower only_c_head opening_ends_name) leads_def_head leads_c_head def_or_c
-
-pub good_head_read : Good HeadRead
-unfolding HeadRead
-good_head_read = good_of _ good_some_head
-
-pub leads_head_read : {R : Stops} → Leads HeadRead R BeginsHead
-unfolding HeadRead
-leads_head_read = leads_of _ leads_some_head
-
-pub only_head_read : Only HeadRead (IsBefore (kind.Operator sign.OpenParenthesis))
-unfolding HeadRead
-only_head_read = only_of _ only_some_head
 
 pub good_c_head_read : Good CHeadRead
 unfolding CHeadRead

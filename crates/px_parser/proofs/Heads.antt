@@ -101,9 +101,6 @@ HeadsUpTo n ts i = head_at ts i ≤ n
 pub heads_apart : (n m : ℕ) → m < n → Clash (Heads n) (HeadsUpTo m)
 heads_apart n m lt ts us i agree a b = omega (arith, head_carried ts us i agree, a, b, lt)
 
-pub kind_heads : (k : TokenKind) (ts : List Terminal) (i : ℕ) → HasKind ts i k → Heads (kind_head k) ts i
-kind_heads k ts i h = head_here h
-
 pub heads_apart_kind : (n : ℕ) (k : TokenKind) → n < kind_head k → Clash (HeadsUpTo n) (λ ts i. HasKind ts i k)
 heads_apart_kind n k lt ts us i agree a b = omega (arith, head_carried ts us i agree, a, head_here b, lt)
 

@@ -12,7 +12,7 @@ use Rattle.px_exprs.specs.declared.readings.Unread.{Unread}
 use Rattle.px_exprs.specs.Inputs.{terminals_of}
 use Rattle.px_exprs.specs.Terminals.{Terminal, HasKind, IsKeyword, IsOperator, IsAt}
 use Rattle.px_exprs.specs.Readings.{Stops}
-use Rattle.px_parser.specs.Shapes.{Shape, Token, Name, Here, Seq, Of, After, Before}
+use Rattle.px_parser.specs.Shapes.{Shape, Token, Name, Here, Seq, After, Before}
 use Rattle.px_parser.specs.Readings.{IsReading, IsUnread, IsStuck, Anywhere}
 use Rattle.px_parser.specs.Listings.{IsListing}
 use Rattle.px_parser.specs.Ends.{EndsAlias, EndsNames, IsBefore}
@@ -150,9 +150,6 @@ PartParts = Seq Dotted PartNames
 
 good_part_parts : Good PartParts
 good_part_parts = good_seq good_dotted good_part_names
-
-abbrev PartForm : Shape (Bool × ImportForm)
-PartForm = Of (λ p. (p.1.0, imports.Parts p.0 p.1.1)) PartParts
 
 behind_from : {ts : List Terminal} {i l room : ℕ} → IsReading (Token (kind.Keyword word.From)) Anywhere ts i room tt l → Step PartParts (IsBefore kind.Newline) PartImport (IsBefore kind.Newline) ts i l room
 unfolding PartImport

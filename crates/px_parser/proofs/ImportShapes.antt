@@ -14,7 +14,7 @@ use Rattle.px_parser.specs.Ends.{EndsAlias, EndsNames, IsBefore}
 use Rattle.px_parser.specs.ModuleGrammar.{Dotted, Alias, ImportWord, Imported, WholeImport, PartImport, ImportLine}
 use Rattle.px_parser.proofs.Shapely.{Solid, Good, good_name, good_token, good_here, good_seq, good_either, good_of, good_after, good_before, good_maybe, good_separated, good_placed, sound_name, sound_token, sound_here, sound_of, sound_after}
 use Rattle.px_parser.proofs.Onlies.{Leads, Clash, Only, leads_here, leads_placed, leads_of, leads_either, leads_token, leads_after, leads_gives, leads_anywhere, leads_wider, only_name, only_token, only_here, only_of, only_seq, only_either, only_placed, only_after, only_before, only_maybe, only_narrower}
-use Rattle.px_parser.proofs.KindLaws.{kind_missing, other_kind, kinds_apart, solid_token, solid_name, solid_front, solid_placed, solid_of, solid_either, solid_after, solid_separated, leads_first, leads_name, only_separated}
+use Rattle.px_parser.proofs.KindLaws.{kind_missing, other_kind, kinds_apart, solid_token, solid_name, solid_front, solid_placed, solid_of, solid_either, solid_after, solid_separated, leads_first, only_separated}
 
 -- Names
 
@@ -25,10 +25,6 @@ good_dotted = good_separated _ good_name
 pub solid_dotted : Solid Dotted
 unfolding Dotted
 solid_dotted = solid_separated _ sound_name solid_name
-
-pub leads_dotted : {R : Stops} → Leads Dotted R (IsBefore kind.Name)
-unfolding Dotted
-leads_dotted = leads_of _ (leads_first leads_name)
 
 pub only_dotted : Only Dotted (EndsNames sign.Point)
 unfolding Dotted
@@ -78,10 +74,6 @@ good_imported = good_of _ (good_seq good_name good_alias)
 pub solid_imported : Solid Imported
 unfolding Imported
 solid_imported = solid_of _ (solid_front solid_name good_alias.sound)
-
-pub leads_imported : {R : Stops} → Leads Imported R (IsBefore kind.Name)
-unfolding Imported
-leads_imported = leads_of _ (leads_first leads_name)
 
 pub only_imported : Only Imported EndsAlias
 unfolding Imported

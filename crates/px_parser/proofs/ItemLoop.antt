@@ -15,10 +15,11 @@ use Rattle.px_parser.specs.ModuleGrammar.{Item, one_function, one_import}
 use Rattle.px_parser.specs.Parts.{ItemsRead}
 use Rattle.px_parser.proofs.Shapely.{Solid, rises_many}
 use Rattle.px_parser.proofs.Steps.{Step, step_twice, step_of, step_many, many_more}
-use Rattle.px_parser.proofs.BlockShapes.{good_block, solid_token, solid_of, solid_either, solid_statement}
+use Rattle.px_parser.proofs.BlockShapes.{good_block, solid_statement}
 use Rattle.px_parser.proofs.FunctionShapes.{solid_function}
 use Rattle.px_parser.proofs.ImportShapes.{solid_import_line}
 use Rattle.px_parser.proofs.ItemShapes.{good_item, only_item, leads_item, item_is_no_end, item_ends_arms, end_ends_arms}
+use Rattle.px_parser.proofs.KindLaws.{solid_token, solid_of, solid_either}
 
 -- items that were read up to an index
 pub record AreItems (ts : List Terminal) (room : ℕ) (tree : List ModuleItem) (to : ℕ) : Type 0 where

@@ -20,7 +20,8 @@ use Rattle.px_parser.specs.ModuleGrammar.{FunctionForm, ImportLine, Item, one_fu
 use Rattle.px_parser.proofs.Shapely.{Good, good_token, good_either, good_of}
 use Rattle.px_parser.proofs.Onlies.{Leads, Clash, Sees, Only, leads_token, leads_of, leads_either, leads_wider, only_token, only_of, only_either, only_many, only_narrower}
 use Rattle.px_parser.proofs.Heads.{head_at, head_here, head_carried, HeadsUpTo}
-use Rattle.px_parser.proofs.BlockShapes.{good_block, only_block, good_statement, only_statement, solid_statement, leads_statement, leads_if, leads_while, leads_for, leads_with}
+use Rattle.px_parser.proofs.CompoundShapes.{leads_if, leads_while, leads_for, leads_with}
+use Rattle.px_parser.proofs.BlockShapes.{good_block, only_block, good_statement, only_statement, solid_statement, leads_statement}
 use Rattle.px_parser.proofs.SimpleShapes.{leads_line, no_simple}
 use Rattle.px_parser.proofs.VariableShapes.{leads_declare}
 use Rattle.px_parser.proofs.FunctionShapes.{BeginsFunction, good_function, only_function, solid_function, leads_function}

@@ -1,5 +1,5 @@
 -- How one item of a module is read: each of its forms is told by its first tokens.
-use Rattle.std.proofs.Common.{◌≡◌, ℕ, suc, ◌+◌, ◌≤◌, ◌<◌, ◌⊎◌, inl, inr, List, [], ◌∷◌, map, Result, refl, sym, ◌∙◌, subst, arith}
+use Rattle.std.proofs.Common.{◌≡◌, ℕ, suc, ◌+◌, ◌≤◌, ◌<◌, ◌⊎◌, inl, inr, List, [], ◌∷◌, map, Result, refl, sym, subst, arith}
 use Rattle.px_lexer.specs.declared.spelling.Keyword.TheVariants as word
 use Rattle.px_lexer.specs.declared.spelling.Operator.TheVariants as sign
 use Rattle.px_lexer.specs.declared.token_list.TokenKind.TheVariants as kind
@@ -54,9 +54,6 @@ no_function ts i none us agree mode t n j x s =
       | inr (inr (inl h)) ↦ none (inr (inr (inl (kind_carried (suc i) (agree_back us ts agree) h (omega arith)))))
       | inr (inr (inr h)) ↦ none (inr (inr (inr (kind_carried (suc i) (agree_back us ts agree) h (omega arith)))))
     ]
-
-no_import_with : (ts : List Terminal) (i : ℕ) → (head_at ts i ≡ 8 → ⊥) → Never Imports EndsArms ts i
-no_import_with ts i none us agree mode t n j x s = none (sym (head_carried ts us i agree) ∙ import_head us i ((leads_import_line {R = Anywhere}).leads x.read tt))
 
 no_import : (ts : List Terminal) (i : ℕ) → BeginsFunction ts i → Never Imports EndsArms ts i
 no_import ts i h us agree mode t n j x s = function_or_import ts us i agree h ((leads_import_line {R = Anywhere}).leads x.read tt)

@@ -3,6 +3,7 @@ mod BlockSteps
 mod CItemSteps
 mod CItems
 mod CommentLaws
+mod CompoundShapes
 mod CompoundSteps
 mod DeclareReading
 mod ExprLists

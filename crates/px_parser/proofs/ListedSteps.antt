@@ -43,17 +43,6 @@ stuck_behind {R = R} {j = j} sound rising only wider reading none = record {
       none us agree (subst (R us) (sym same.1) r);
 }
 
--- a step of a form that stops in more places
-pub step_wider : {A B : Type 0} {X : Shape A} {S M : Stops} {Y : Shape B} {R : Stops} {ts : List Terminal} {i l room : ℕ} → ((us : List Terminal) (p : ℕ) → S us p → M us p) → Step X S Y R ts i l room → Step X M Y R ts i l room
-step_wider wider step = record {
-  forward = step.forward;
-  rising = step.rising;
-  make = step.make;
-  split = λ mode us n f j agree sees y stop.
-      let part = step.split mode us n f j agree sees y stop in
-      record { tree = part.tree; end = part.end; derived = part.derived; stops = wider us part.end part.stops };
-}
-
 -- Fronts
 
 -- elements each with its separator

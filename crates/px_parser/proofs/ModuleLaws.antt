@@ -11,6 +11,7 @@ use Rattle.px_exprs.specs.Runs.{nesting_limit, IsRefusalAt}
 use Rattle.px_exprs.specs.Inputs.{terminals_of}
 use Rattle.px_exprs.proofs.Agreement.{agree_same}
 use Rattle.px_exprs.proofs.Codes.{one_token}
+use Rattle.px_exprs.proofs.RunLaws.{front_and_more}
 use Rattle.px_parser.specs.Ends.{IsBefore}
 use Rattle.px_parser.specs.Laws.{ModulesAreUnique, ParsingIsUnique, RefusalsAreAtTokens, IsAtToken}
 use Rattle.px_parser.specs.ModuleGrammar.{Item, ModuleForm}
@@ -19,7 +20,7 @@ use Rattle.px_parser.specs.Readings.{Anywhere}
 use Rattle.px_parser.specs.Shapes.{Mode, Here, Many, Before, Seq}
 use Rattle.px_parser.proofs.ItemShapes.{good_item, only_items}
 use Rattle.px_parser.proofs.Onlies.{Only, leads_of, leads_here, leads_token, only_before, only_here, only_seq, only_placed, only_of}
-use Rattle.px_parser.proofs.Parsed.{begun, begins_fewer}
+use Rattle.px_parser.proofs.Parsed.{begins_fewer}
 use Rattle.px_parser.proofs.Shapely.{AtLeast, Solid, sound_many, sound_before, sound_here, rises_many}
 use Rattle.px_parser.proofs.Steps.{order, sees_strict, strict_rises, strict_unseen}
 
@@ -79,13 +80,13 @@ with_comments comments other mode more ts m n j least h =
 derived_begins : (limit k : ℕ) (ts : List Terminal) (comments : List Comment) (m : Module) → Derives limit ts comments m → k ≤ length ts → Begins (take k ts)
 derived_begins limit k ts comments m p le =
     let bare = with_comments comments [] (strict limit) (strict limit) ts m limit (length ts) (strict_rises limit limit (omega arith)) p in
-    (drop k ts, limit, bare.tree, subst (λ us. Derives limit us [] bare.tree) (begun k ts ts (agree_same ts) le) bare.derived)
+    (drop k ts, limit, bare.tree, subst (λ us. Derives limit us [] bare.tree) (front_and_more k ts ts (agree_same ts) le) bare.derived)
 
 -- and one that isn't nested deeper
 derived_begins_within : (k : ℕ) (ts : List Terminal) (comments : List Comment) (m : Module) → Derives nesting_limit ts comments m → k ≤ length ts → BeginsWithin nesting_limit ts k
 derived_begins_within k ts comments m p le =
     let bare = with_comments comments [] (strict nesting_limit) (unseen_from nesting_limit k) ts m nesting_limit (length ts) (strict_unseen nesting_limit nesting_limit k (omega arith)) p in
-    (drop k ts, bare.tree, subst (λ us. ModuleForm [] (unseen_from nesting_limit k) us 0 bare.tree nesting_limit (length us)) (begun k ts ts (agree_same ts) le) bare.derived)
+    (drop k ts, bare.tree, subst (λ us. ModuleForm [] (unseen_from nesting_limit k) us 0 bare.tree nesting_limit (length us)) (front_and_more k ts ts (agree_same ts) le) bare.derived)
 
 -- One refusal
 

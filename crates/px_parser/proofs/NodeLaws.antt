@@ -35,7 +35,7 @@ use Rattle.px_parser.specs.StatementGrammar.{statement_node, expr_list, CommaLis
 use Rattle.px_parser.specs.ModuleGrammar.{Numbered, ImportLine, DecoratorLine, Parameter, Parameters, Result, Exception, DefHead, CHead, Tail, Rest, FunctionForm, one_import, one_function, Item, ModuleForm}
 use Rattle.px_parser.specs.Parsing.{strict}
 use Rattle.px_parser.proofs.Shapely.{sound_token, sound_name, sound_soft, sound_of, sound_or, sound_separated}
-use Rattle.px_parser.proofs.BlockShapes.{sound_lock}
+use Rattle.px_parser.proofs.CompoundShapes.{sound_lock}
 use Rattle.px_parser.proofs.TypedNames.{typing_kept}
 use Rattle.px_parser.proofs.TargetsLaws.{target_is_expr}
 use Rattle.px_parser.proofs.TargetsShapes.{good_augmented}

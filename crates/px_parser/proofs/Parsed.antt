@@ -1,5 +1,5 @@
 -- What the reading of items tells of the module, and of where it is refused.
-use Rattle.std.proofs.Common.{◌≡◌, ℕ, zero, suc, ◌<◌, ◌≤◌, ◌⊎◌, inl, inr, max, List, [], ◌∷◌, ◌++◌, map, length, take, drop, refl, sym, ap, ap₂, ◌∙◌, subst, arith}
+use Rattle.std.proofs.Common.{◌≡◌, ℕ, zero, suc, ◌<◌, ◌≤◌, ◌⊎◌, inl, inr, max, List, [], ◌∷◌, ◌++◌, map, length, take, drop, refl, sym, ap, ◌∙◌, subst, arith}
 use Rattle.std.proofs.lemmas.List.{length-append, length-take-le}
 use Rattle.px_base.specs.declared.refusals.Span.{Span}
 use Rattle.px_lexer.specs.declared.spelling.Keyword.TheVariants as word
@@ -13,6 +13,7 @@ use Rattle.px_exprs.specs.Runs.{nesting_limit}
 use Rattle.px_exprs.proofs.Agreement.{agree_carried, agree_append, agree_take}
 use Rattle.px_lexer.specs.declared.token_list.Tokens.{Tokens}
 use Rattle.px_exprs.specs.Inputs.{terminals_of}
+use Rattle.px_exprs.proofs.RunLaws.{front_and_more}
 use Rattle.px_exprs.proofs.TokenReading.{length_terminals}
 use Rattle.px_parser.specs.Listings.{IsListing}
 use Rattle.px_parser.specs.Ends.{IsBefore}
@@ -25,16 +26,6 @@ use Rattle.px_parser.specs.Readings.{HasWay, HasBlocks, IsShallow, IsArrived, Is
 use Rattle.px_parser.proofs.Shapely.{Sound, IsRising, token_of, stands_last, stands_there, sound_of, sound_many, rises_of, rises_many, one_longer}
 use Rattle.px_parser.proofs.ItemShapes.{good_item}
 use Rattle.px_parser.proofs.Steps.{strict_rises, unseen_rises, order, arrived_way}
-
--- a list that has the first k tokens of another is these and more
-pub begun : (k : ℕ) (us ts : List Terminal) → Agree k us ts → k ≤ length us → us ≡ take k ts ++ drop k us
-begun zero us ts agree le = refl
-begun (suc k) [] ts agree le = absurd (omega (arith, le))
-begun (suc k) (u ∷ us) [] agree le = let e = agree 0 (omega arith) in absurd cc
-begun (suc k) (u ∷ us) (t ∷ ts) agree le =
-    let e = agree 0 (omega arith) in
-    let head : u ≡ t = cc in
-    ap₂ (λ x xs. x ∷ xs) head (begun k us ts (λ i lt. agree (suc i) (omega (arith, lt))) (omega (arith, le)))
 
 -- END behind items makes a module
 
@@ -108,7 +99,7 @@ whole_of mode us items n read =
 -- the first k tokens of a list are those of the other
 begun_with_end : (k : ℕ) (us ts : List Terminal) → Agree k us ts → k ≤ length us → with_end us ≡ take k ts ++ drop k (with_end us)
 begun_with_end k us ts agree le =
-    begun k (with_end us) ts (λ i lt. agree_append us (token_of kind.End ∷ []) i (omega (arith, lt, le)) ∙ agree i lt) (omega (arith, one_longer us (token_of kind.End), le))
+    front_and_more k (with_end us) ts (λ i lt. agree_append us (token_of kind.End ∷ []) i (omega (arith, lt, le)) ∙ agree i lt) (omega (arith, one_longer us (token_of kind.End), le))
 
 -- a list of items goes on to a module
 begins_of : (ts : List Terminal) (k : ℕ) → HasWay ItemsRead ts 0 k → Begins (take k ts)
@@ -122,7 +113,7 @@ begins_of ts k way =
 pub begins_fewer : (ts : List Terminal) (i k : ℕ) → i ≤ k → k ≤ length ts → Begins (take k ts) → Begins (take i ts)
 begins_fewer ts i k le within b =
     let us : List Terminal = take k ts ++ b.0 in
-    let is : us ≡ take i ts ++ drop i us = begun i us ts (agree_carried us ts (agree_take k ts b.0 within) le) (omega (arith, length-append (take k ts) b.0, length-take-le k ts within, le)) in
+    let is : us ≡ take i ts ++ drop i us = front_and_more i us ts (agree_carried us ts (agree_take k ts b.0 within) le) (omega (arith, length-append (take k ts) b.0, length-take-le k ts within, le)) in
     (drop i us, b.1, b.2, subst (λ vs. Derives b.1 vs [] b.2) is b.3)
 
 -- Where tokens go on without too deep a nesting, none of them shows one

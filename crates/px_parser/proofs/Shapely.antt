@@ -328,9 +328,6 @@ fresh_then s x y mode us n opens =
       derived = record { middle = length one.tokens; first = s.carried one.derived two.same; second = two.derived };
     }
 
-pub fresh_seq : {A B : Type 0} {X : Shape A} {Y : Shape B} → Sound X → IsFresh X → IsFresh Y → IsFresh (Seq X Y)
-fresh_seq s x y = fresh_then s x (λ _. y)
-
 pub fresh_placed : {A : Type 0} {X : Shape A} → Solid X → IsFresh X → IsFresh (Placed X)
 fresh_placed solid x mode us n opens =
     let one = x mode us n opens in
@@ -366,20 +363,8 @@ fresh_of f x mode us n opens =
     let one = x mode us n opens in
     record { tokens = one.tokens; same = one.same; long = one.long; tree = f one.tree; derived = record { inner = one.tree; read = one.derived; tree = refl } }
 
-pub fresh_after : {A : Type 0} {X : Shape A} (k : TokenKind) → IsFresh X → IsFresh (After k X)
-fresh_after k x = fresh_of _ (fresh_seq (sound_token k) (fresh_token k) x)
-
-pub fresh_before : {A : Type 0} {X : Shape A} (k : TokenKind) → Sound X → IsFresh X → IsFresh (Before X k)
-fresh_before k s x = fresh_of _ (fresh_seq s x (fresh_token k))
-
 pub fresh_or : {A : Type 0} {X : Shape A} (absent : A) → IsFresh (Or absent X)
 fresh_or absent = fresh_right (fresh_gives absent)
-
-pub fresh_several : {A : Type 0} {X : Shape A} → Sound X → IsFresh X → IsFresh (Several X)
-fresh_several s x = fresh_of _ (fresh_seq s x fresh_many)
-
-pub fresh_separated : {A : Type 0} {X : Shape A} (k : TokenKind) → Sound X → IsFresh X → IsFresh (Separated k X)
-fresh_separated k s x = fresh_of _ (fresh_seq s x fresh_many)
 
 -- All three, for shapes without blocks
 

@@ -19,44 +19,22 @@ use Rattle.px_exprs.proofs.Beginnings.{expr_begins}
 use Rattle.px_exprs.proofs.Codes.{code_here, one_kind}
 use Rattle.px_exprs.proofs.Keeping.{kind_carried}
 use Rattle.px_exprs.proofs.Stops.{code_carried, kind_stops}
-use Rattle.px_parser.specs.Shapes.{Shape, Token, Name, Here, Placed, Gives, Seq, Either, Many, Listed, Of, After, Before, Or, Maybe, Nested}
+use Rattle.px_parser.specs.Shapes.{Shape, Token, Name, Here, Gives, Seq, Either, Many, Listed, Of, After, Before, Or, Maybe, Nested}
 use Rattle.px_parser.specs.Readings.{Anywhere}
 use Rattle.px_parser.specs.StatementGrammar.{InBrackets, Exprs, Return, Raise, Global, SimpleForm, Simple, Line}
 use Rattle.px_parser.specs.Parts.{Assigned, RaisedText, NamesBy}
 use Rattle.px_parser.specs.Ends.{EndsExprs, EndsSimple, EndsNames}
 use Rattle.px_parser.proofs.Shapely.{Sound, Solid, SoundForm, Good, sound_name, sound_here, sound_gives, sound_nested, sound_many, sound_after, sound_before, sound_maybe, rises_nested, rises_maybe, fresh_or, good_name, good_here, good_gives, good_seq, good_of, good_after, good_before, good_or, good_maybe, good_either, good_separated, good_placed, good_listed}
 use Rattle.px_parser.proofs.Onlies.{Leads, Clash, clash_back, Only, OnlyForm, leads_either, leads_of, leads_after, leads_seq, leads_placed, leads_listed, leads_wider, leads_anyhow, leads_anywhere, only_name, only_here, only_gives, only_seq, only_of, only_either, only_many, only_listed, only_after, only_before, only_or, only_maybe, only_placed, only_nested, only_narrower}
-use Rattle.px_parser.proofs.ExprShapes.{BeginsLow, good_form_expr, only_form_expr, good_exprs, only_exprs, leads_exprs, low_is_no_end, solid_first}
+use Rattle.px_parser.proofs.ExprShapes.{BeginsLow, good_form_expr, only_form_expr, good_exprs, only_exprs, leads_exprs, low_is_no_end}
 use Rattle.px_parser.proofs.TargetsShapes.{good_assigned}
 use Rattle.px_parser.proofs.TargetsOnly.{only_assigned, leads_assigned, solid_assigned}
+use Rattle.px_parser.proofs.KindLaws.{solid_front, solid_placed, solid_of, solid_either, solid_after}
 
 -- Each form has a token
 
-pub solid_token : (k : TokenKind) → Solid (Token k)
-solid_token k = record { grows = λ h. omega (arith, h.end) }
-
-pub solid_name : Solid Name
-solid_name = record { grows = λ h. omega (arith, h.end) }
-
-pub solid_of : {A B : Type 0} {X : Shape A} (f : A → B) → Solid X → Solid (Of f X)
-solid_of f x = record { grows = λ h. x.grows h.read }
-
-pub solid_placed : {A : Type 0} {X : Shape A} → Solid X → Solid (Placed X)
-solid_placed x = record { grows = λ h. omega (arith, h.first.end, x.grows h.second) }
-
-pub solid_after : {A : Type 0} {X : Shape A} (k : TokenKind) → Sound X → Solid (After k X)
-solid_after k sound = solid_of _ (solid_first (solid_token k) sound)
-
 pub solid_before : {A : Type 0} {X : Shape A} (k : TokenKind) → Sound X → Solid (Before X k)
 solid_before k sound = record { grows = λ h. omega (arith, sound.forward h.read.first, h.read.second.end) }
-
-pub solid_either : {A : Type 0} {X Y : Shape A} → Solid X → Solid Y → Solid (Either X Y)
-solid_either x y = record {
-  grows = λ h. elim (h) [
-    | Either.left g ↦ x.grows g
-    | Either.right g ↦ y.grows g
-  ];
-}
 
 -- Tokens that differ
 
@@ -86,9 +64,6 @@ simple_end_code ts i (inr h) = code_here h
 pub simple_ends_exprs : (ts : List Terminal) (i : ℕ) → EndsSimple ts i → EndsExprs ts i
 simple_ends_exprs ts i end = omega (arith, simple_end_code ts i end)
 
-pub low_is_no_simple_end : Clash BeginsLow EndsSimple
-low_is_no_simple_end ts us i agree low end = low_is_no_end ts us i agree low (simple_ends_exprs us i end)
-
 pub is_no_simple_end : (k : TokenKind) → (k ≡ kind.Operator sign.Semicolon → ⊥) → (k ≡ kind.Newline → ⊥) → Clash (IsKind k) EndsSimple
 is_no_simple_end k a b = clash_with_either (kinds_clash k (kind.Operator sign.Semicolon) a) (kinds_clash k kind.Newline b)
 
@@ -112,10 +87,6 @@ only_other_names separator =
 pub only_names : (separator : Operator) → Only (NamesBy separator) (EndsNames separator)
 unfolding NamesBy
 only_names separator = only_of _ (only_seq sound_name (sound_many (sound_after _ sound_name)) (only_name Anywhere) (leads_anywhere (Many (After (kind.Operator separator) Name)) (EndsNames separator)) (only_other_names separator))
-
-pub solid_names : (separator : Operator) → Solid (NamesBy separator)
-unfolding NamesBy
-solid_names separator = solid_of _ (solid_first solid_name (sound_many (sound_after _ sound_name)))
 
 -- Expressions in brackets
 
@@ -348,9 +319,6 @@ FromContinue = Either (Lone word.Continue statement.Continue) FromReturn
 abbrev pub FromBreak : Shape StmtForm
 FromBreak = Either (Lone word.Break statement.Break) FromContinue
 
-abbrev pub FromPass : Shape StmtForm
-FromPass = Either (Lone word.Pass statement.Pass) FromBreak
-
 pub laws_lone : (w : Keyword) (form : StmtForm) → Laws (Lone w form) (IsWord w)
 laws_lone w form = record { good = good_lone w form; only = only_lone w form EndsSimple; solid = solid_lone w form; leads = leads_lone w form }
 
@@ -419,18 +387,18 @@ laws_form = laws_either (laws_lone word.Pass statement.Pass) laws_from_break pas
 
 pub good_simple : Good Simple
 unfolding Simple
-good_simple = good_of _ (good_placed (solid_first laws_form.solid sound_here) (good_seq laws_form.good good_here))
+good_simple = good_of _ (good_placed (solid_front laws_form.solid sound_here) (good_seq laws_form.good good_here))
 
 pub leads_end : (S : Stops) → Leads Here S S
 leads_end S = record { leads = λ {ts} h r. subst (S ts) h.end r }
 
 pub only_simple : Only Simple EndsSimple
 unfolding Simple
-only_simple = only_of _ (only_placed (solid_first laws_form.solid sound_here) (only_seq laws_form.good.sound sound_here laws_form.only (leads_end EndsSimple) (only_here EndsSimple)))
+only_simple = only_of _ (only_placed (solid_front laws_form.solid sound_here) (only_seq laws_form.good.sound sound_here laws_form.only (leads_end EndsSimple) (only_here EndsSimple)))
 
 pub solid_simple : Solid Simple
 unfolding Simple
-solid_simple = solid_of _ (solid_placed (solid_first laws_form.solid sound_here))
+solid_simple = solid_of _ (solid_placed (solid_front laws_form.solid sound_here))
 
 pub leads_simple : {R : Stops} → Leads Simple R BeginsSimple
 unfolding Simple

@@ -31,12 +31,14 @@ use Rattle.px_parser.specs.Readings.{IsStuck, IsUnread, IsReading, Reads, Anywhe
 use Rattle.px_parser.specs.StatementGrammar.{Exprs, Return, Raise, Global, SimpleForm, Simple, statement_node}
 use Rattle.px_parser.specs.Parts.{Assigned, RaisedText, NamesBy}
 use Rattle.px_parser.specs.Ends.{EndsExprs, EndsSimple, EndsNames}
-use Rattle.px_parser.proofs.Shapely.{Solid, Good, IsRising, sound_token, sound_name, sound_here, sound_nested, stands_there, fresh_token, fresh_here, good_token, good_name, good_here, good_seq, good_of, good_after, good_many, good_maybe, good_placed, rises_nested, rises_of}
+use Rattle.px_parser.proofs.Shapely.{Good, IsRising, sound_token, sound_name, sound_here, sound_nested, fresh_token, fresh_here, good_token, good_name, good_here, good_seq, good_of, good_after, good_many, good_maybe, good_placed, rises_nested, rises_of}
 use Rattle.px_parser.proofs.Onlies.{Clash, clash_back, Only, leads_token, leads_after, leads_anyhow, leads_anywhere, only_token, only_name, only_after, only_nested}
 use Rattle.px_parser.proofs.Steps.{Step, Never, Local, fails, step_first, step_second, step_of, step_left, step_right, step_twice, step_many, many_more, step_narrower, stuck_behind, never_by, arrived_way}
 use Rattle.px_parser.proofs.TokenShapes.{unread_at}
-use Rattle.px_parser.proofs.ExprShapes.{good_exprs, solid_first}
+use Rattle.px_parser.proofs.ExprShapes.{good_exprs}
 use Rattle.px_parser.proofs.SimpleShapes.{IsKind, IsWord, Laws, Lone, FromBreak, FromContinue, FromReturn, FromRaise, FromGlobal, laws_lone, laws_return, laws_raise, laws_global, laws_assigned, laws_from_break, laws_from_continue, laws_from_return, laws_from_raise, laws_from_global, laws_form, pass_apart, break_apart, continue_apart, return_apart, raise_apart, word_low, simple_ends_exprs, simple_ends_names, Bracketed, sound_bracketed, only_bracketed, good_text, IsClosing, closing_past, good_closed, good_raised_text, only_raised_text, IsOpening, NoOpening, opening_is_no_end, simple_end_is_no_opening, MaybeText, good_maybe_text, Raised, good_raised, good_returned, good_names, good_global_names, only_return_exprs, only_raise_opening, only_global_names, good_return, good_raise, good_global, good_lone, only_lone, separator_ends_names, leads_end}
+use Rattle.px_parser.proofs.KindLaws.{solid_front}
+use Rattle.px_parser.proofs.PartSteps.{step_placed}
 
 -- Single tokens
 
@@ -67,9 +69,6 @@ token_here tokens i room k listing other stands = record {
   within = omega (arith, listing.goes_on i k stands other, length_terminals tokens);
 }
 
-pub reading_inside : {A : Type 0} {X : Shape A} {S : Stops} (tokens : Tokens) {i room j : ℕ} {t : A} → IsReading X S (terminals_of tokens) i room t j → j < length tokens.list
-reading_inside tokens h = omega (arith, h.within, length_terminals tokens)
-
 -- A token, and a form behind it
 
 pub step_token : {A : Type 0} {X : Shape A} {R : Stops} (k : TokenKind) (ts : List Terminal) (i room : ℕ) → Good X → Step (Token k) Anywhere (After k X) R ts i i room
@@ -92,22 +91,6 @@ pub step_maybe : {A : Type 0} {X : Shape A} {S : Stops} (ts : List Terminal) (i 
 step_maybe {S = S} ts i room x local none = step_twice (step_of Some S ts i room x.rises) (step_left ts i room (good_of Some x).rises (never_gives None ts i local none))
 
 -- Places
-
-pub step_placed : {A : Type 0} {X : Shape A} (S : Stops) (ts : List Terminal) (i room : ℕ) → Solid X → IsRising X → Step X S (Placed X) S ts i i room
-step_placed {A} {X} S ts i room solid rising = record {
-  forward = omega arith;
-  rising = rising;
-  make = λ mode us n e agree long least le opens x.
-      let first = stands_there us i (solid.grows x) in
-      record {
-        tokens = us;
-        same = agree_same us;
-        long = omega arith;
-        tree = (first.0.at, e);
-        derived = record { middle = i; first = record { placed = record { token = first.0; stands = first.1; placed = refl }; end = refl }; second = x };
-      };
-  split = λ mode us n f j agree sees y stop. record { tree = f.1; end = j; derived = subst (λ k. X mode us k f.1 n j) y.first.end y.second; stops = stop };
-}
 
 -- Where a simple statement ends
 
@@ -407,7 +390,7 @@ pub simple_first : (ts : List Terminal) (i room : ℕ) → Step SimpleForm EndsS
 unfolding Simple
 simple_first ts i room =
     let both = good_seq laws_form.good good_here in
-    let solid = solid_first laws_form.solid sound_here in
+    let solid = solid_front laws_form.solid sound_here in
     let first : Step SimpleForm EndsSimple (Seq SimpleForm Here) EndsSimple ts i i room = step_first {Y = λ _. Here} {R = EndsSimple} ts i room laws_form.good.sound laws_form.good.rises (λ a. fresh_here) (λ a. leads_end EndsSimple) in
     let placed : Step (Seq SimpleForm Here) EndsSimple (Placed (Seq SimpleForm Here)) EndsSimple ts i i room = step_placed EndsSimple ts i room solid both.rises in
     step_twice first (step_twice placed (step_of (λ p. statement_node p.1.1 p.0 p.1.0) EndsSimple ts i room (good_placed solid both).rises))

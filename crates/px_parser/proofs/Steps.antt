@@ -241,10 +241,6 @@ pub many_more : {A : Type 0} {X : Shape A} {mode : Mode} {ts : List Terminal} {i
 many_more Many.none x = Many.more x Many.none
 many_more (Many.more first rest) x = Many.more first (many_more rest x)
 
-pub many_append : {A : Type 0} {X : Shape A} {mode : Mode} {ts : List Terminal} {i k n j : ℕ} {xs ys : List A} → Many X mode ts i xs n k → Many X mode ts k ys n j → Many X mode ts i (xs ++ ys) n j
-many_append Many.none rest = rest
-many_append (Many.more first others) rest = Many.more first (many_append others rest)
-
 no_list : {A : Type 0} (t : A) (xs : List A) → t ∷ xs ≡ [] → ⊥
 no_list t xs e = cc
 
@@ -428,10 +424,6 @@ late {k = k} rising reached (unread.TooDeep j) over = elim (order j k) [
   | inr le ↦ le
 ]
 late rising reached unread.NoMemory h = tt
-
--- no form of this shape begins with the tokens up to this one
-abbrev pub NeverUpTo : {A : Type 0} → Shape A → Stops → List Terminal → ℕ → ℕ → Type 0
-NeverUpTo {A} X S ts i k = (us : List Terminal) → Agree (suc k) us ts → (mode : Mode) (t : A) (n j : ℕ) → X mode us i t n j → S us j → ⊥
 
 -- What is read as a part that is the whole, where no other form begins with the tokens that are known
 

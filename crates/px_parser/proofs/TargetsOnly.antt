@@ -23,11 +23,12 @@ use Rattle.px_parser.specs.Parts.{Assigned}
 use Rattle.px_parser.specs.Ends.{EndsExprs, EndsSimple}
 use Rattle.px_parser.proofs.Shapely.{Good, Solid, sound_many, sound_seq, sound_here, good_of, good_placed, good_seq, good_here, good_many}
 use Rattle.px_parser.proofs.Onlies.{Leads, Clash, Sees, Only, sees_less, leads_after, leads_wider, leads_many, leads_here, leads_anywhere, only_of, only_placed, only_seq, only_here, only_after, only_many, only_narrower}
-use Rattle.px_parser.proofs.ExprShapes.{good_exprs_read, good_expr, only_exprs_read, only_expr, end_past, IsComma, BeginsLow, solid_first, solid_exprs, leads_exprs}
-use Rattle.px_parser.proofs.TargetsLaws.{good_target, only_target, solid_target, leads_target}
+use Rattle.px_parser.proofs.ExprShapes.{good_exprs_read, good_expr, only_exprs_read, only_expr, end_past, IsComma, BeginsLow, solid_exprs, leads_exprs}
+use Rattle.px_parser.proofs.TargetsLaws.{good_target, only_target, solid_target}
 use Rattle.px_parser.proofs.TargetsLoops.{Next, good_next, EndsLoopTarget, IsIn, loop_past}
 use Rattle.px_parser.proofs.TargetsShapes.{good_assignment, ReadAny, exprs_of, exprs_read, targets_read, only_targets, augmented_ends, augmented_no_end, augmented_no_equal, simple_ends, equal_ends, equal_no_end, simple_carried}
 use Rattle.px_parser.proofs.TargetsSteps.{Was, Assigns, Augments, Assumes, assigned_first, assignment_first, augmentation_first, good_front}
+use Rattle.px_parser.proofs.KindLaws.{solid_front}
 
 -- An operator has one meaning
 
@@ -197,7 +198,7 @@ only_nexts = only_many good_next.sound (only_after _ good_target.sound (only_nar
 
 pub good_loop_targets : Good LoopTargets
 unfolding LoopTargets
-good_loop_targets = good_of _ (good_placed (solid_first solid_target (good_seq good_here (good_many good_next)).sound) (good_seq good_target (good_seq good_here (good_many good_next))))
+good_loop_targets = good_of _ (good_placed (solid_front solid_target (good_seq good_here (good_many good_next)).sound) (good_seq good_target (good_seq good_here (good_many good_next))))
 
 pub only_loop_targets : Only LoopTargets IsIn
 unfolding LoopTargets
@@ -205,9 +206,5 @@ only_loop_targets =
     let nexts = sound_many good_next.sound in
     let behind = sound_seq sound_here nexts in
     let leads : Leads (Many Next) IsIn EndsLoopTarget = leads_many (leads_wider next_begins (λ ts i comma. inl comma)) (λ ts i keyword. inr keyword) in
-    only_of _ (only_placed (solid_first solid_target behind)
+    only_of _ (only_placed (solid_front solid_target behind)
     (only_seq good_target.sound behind (only_narrower only_target loop_past) (leads_here leads) (only_seq sound_here nexts (only_here Anywhere) (leads_anywhere (Many Next) IsIn) only_nexts)))
-
-pub leads_loop_targets : {R : Stops} → Leads LoopTargets R BeginsLow
-unfolding LoopTargets
-leads_loop_targets = record { leads = λ {ts} h r. subst (BeginsLow ts) h.read.first.end ((leads_target {R = Anywhere}).leads h.read.second.first tt) }

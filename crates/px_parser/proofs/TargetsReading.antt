@@ -59,12 +59,12 @@ value_refused {ts} {from} {to} {p} {meant} a one target room u h =
     let next : to + 1 ≡ suc to = omega arith in
     fails (step_value ts from to room p meant a one target) u (subst (λ k. IsUnread IsWithinLimit (Past 26) ts k room u) next h)
 
-pub augmentation_read : {ts : List Terminal} {from to end : ℕ} {p : Expr × Bool} {meant : BinOp} {v : Expr} → Augmenting ts from p to meant → p.1 ≡ true → IsTargetTree p.0 → (room : ℕ) → IsReading IsWithinLimit (Past 26) ts (to + 1) room v end
-    → (r : Result (Found StmtForm) Unread) → MatchResult r (λ found. (found.tree ≡ statement.Augment p.0 meant v) × (found.to ≡ end) × EndsSimple ts end) (λ u. IsStuckAt end u × (EndsSimple ts end → ⊥)) → Reads Assigned EndsSimple ts from room r
-augmentation_read {ts} {from} {to} {end} {p} {meant} {v} a one target room value r m =
+pub augmentation_read : {ts : List Terminal} {from to end : ℕ} {p : Expr × Bool} {meant : BinOp} {v w : Expr} → Augmenting ts from p to meant → p.1 ≡ true → IsTargetTree p.0 → (room : ℕ) → IsReading IsWithinLimit (Past 26) ts (to + 1) room v end → w ≡ v
+    → (r : Result (Found StmtForm) Unread) → MatchResult r (λ found. (found.tree ≡ statement.Augment p.0 meant w) × (found.to ≡ end) × EndsSimple ts end) (λ u. IsStuckAt end u × (EndsSimple ts end → ⊥)) → Reads Assigned EndsSimple ts from room r
+augmentation_read {ts} {from} {to} {end} {p} {meant} {v} {w} a one target room value same r m =
     let next : to + 1 ≡ suc to = omega arith in
-    let there = subst (λ k. IsReading IsWithinLimit (Past 26) ts k room v end) next value in
-    ended_reads ts from room (statement.Augment p.0 meant v) end r m (λ stop. augment_reads a one target room there stop) (λ endless. augment_ended a one target room there endless)
+    let there = subst (λ k. IsReading IsWithinLimit (Past 26) ts k room w end) next (subst (λ e. IsReading IsWithinLimit (Past 26) ts (to + 1) room e end) (sym same) value) in
+    ended_reads ts from room (statement.Augment p.0 meant w) end r m (λ stop. augment_reads a one target room there stop) (λ endless. augment_ended a one target room there endless)
 
 -- Assignments
 

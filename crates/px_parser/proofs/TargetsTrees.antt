@@ -79,9 +79,6 @@ pub tuple_target : {e : Expr} (items : List Expr) → e.form ≡ form.Tuple item
 tuple_target [] is some targets = absurd (some refl)
 tuple_target {e} (first ∷ others) is some (AreTargetTrees.more target targets) = IsTargetTree.tuple e.number e.at first others target targets (of_form e is)
 
-pub row_told : {e : Expr} (atom : Expr) {trailers : List Trailer} → e.form ≡ form.Row atom trailers → IsTargetTree e → EndsWithSubscript trailers
-row_told {e} atom {trailers} is target = target_told e.number e.at (ExprForm-F.Row atom trailers) (rolls-Row atom trailers) (of_form e is) target
-
 pub tuple_told : {e : Expr} {items : List Expr} → e.form ≡ form.Tuple items → IsTargetTree e → AreTargetTrees items
 tuple_told {e} {items} is target = (target_told e.number e.at (ExprForm-F.Tuple items) (rolls-Tuple items) (of_form e is) target).0
 

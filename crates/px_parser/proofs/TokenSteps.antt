@@ -1,5 +1,5 @@
 -- Steps to the parts of a form with single tokens before or behind it, or with its place.
-use Rattle.std.proofs.Common.{◌≡◌, ℕ, suc, ◌+◌, ◌<◌, List, length, refl, subst, arith}
+use Rattle.std.proofs.Common.{◌≡◌, ℕ, suc, ◌+◌, ◌<◌, List, length, refl, arith}
 use Rattle.px_base.specs.declared.refusals.Span.{Span}
 use Rattle.px_lexer.specs.declared.token_list.Tokens.{Tokens}
 use Rattle.px_lexer.specs.declared.token_list.TokenKind.{TokenKind}
@@ -8,13 +8,12 @@ use Rattle.px_exprs.specs.Terminals.{Terminal, HasKind, IsAt}
 use Rattle.px_exprs.specs.Inputs.{terminals_of}
 use Rattle.px_exprs.specs.Readings.{Stops}
 use Rattle.px_exprs.specs.Runs.{nesting_limit}
-use Rattle.px_exprs.proofs.Agreement.{agree_same}
 use Rattle.px_exprs.proofs.TokenReading.{length_terminals}
 use Rattle.px_parser.specs.Listings.{IsListing}
 use Rattle.px_parser.specs.Shapes.{Mode, Shape, Token, Here, Placed, Seq, After, Before}
 use Rattle.px_parser.specs.Parsing.{strict}
 use Rattle.px_parser.specs.Readings.{IsReading, Anywhere}
-use Rattle.px_parser.proofs.Shapely.{Solid, IsRising, Good, good_token, good_here, good_seq, stands_there, sound_token, fresh_token}
+use Rattle.px_parser.proofs.Shapely.{Good, good_token, good_here, good_seq, sound_token, fresh_token}
 use Rattle.px_parser.proofs.Onlies.{Only, leads_anywhere, leads_token, only_token, only_here}
 use Rattle.px_parser.proofs.Steps.{Step, step_first, step_second, step_of, step_twice}
 
@@ -47,30 +46,6 @@ pub counted_read : {k : TokenKind} {mode : Mode} {ts : List Terminal} {i n j : �
 counted_read token = before_read (record { counted = refl; end = refl }) token
 
 -- Steps
-
-pub step_placed : {A : Type 0} {X : Shape A} (S : Stops) (ts : List Terminal) (i room : ℕ) → Solid X → IsRising X → Step X S (Placed X) S ts i i room
-step_placed {X = X} S ts i room solid rising = record {
-  forward = omega arith;
-  rising = rising;
-  make = λ mode us n e agree long least le opens x.
-      let first = stands_there us i (solid.grows x) in
-      record {
-        tokens = us;
-        same = agree_same us;
-        long = omega arith;
-        tree = (first.0.at, e);
-        derived = record { middle = i; first = record { placed = record { token = first.0; stands = first.1; placed = refl }; end = refl }; second = x };
-      };
-  split = λ mode us n f j agree sees y stop. record { tree = f.1; end = j; derived = subst (λ k. X mode us k f.1 n j) y.first.end y.second; stops = stop };
-}
-
-pub step_here : {A : Type 0} {X : Shape A} (S : Stops) (ts : List Terminal) (i room : ℕ) → IsRising X → Step X S (Seq Here X) S ts i i room
-step_here {X = X} S ts i room rising = record {
-  forward = omega arith;
-  rising = rising;
-  make = λ mode us n e agree long least le opens x. record { tokens = us; same = agree_same us; long = omega arith; tree = (i, e); derived = record { middle = i; first = record { counted = refl; end = refl }; second = x } };
-  split = λ mode us n f j agree sees y stop. record { tree = f.1; end = j; derived = subst (λ k. X mode us k f.1 n j) y.first.end y.second; stops = stop };
-}
 
 -- the token, and the form behind it
 

@@ -467,14 +467,6 @@ typing_named ts i k a is_const b (HasConst.const w m e) h = (codes "const", w)
 pub leads_typing : Leads (Nested IsTyping) Anywhere SomeName
 leads_typing = record { leads = λ {ts = ts} {i = i} {t = t} h s. typing_named ts i h.read.base_from h.read.axes_from t.is_const t.base h.read.const h.read.base }
 
-pub leads_maybe_typed : Leads (Seq (Maybe (Nested IsTyping)) Numbered) Anywhere SomeName
-leads_maybe_typed = record {
-  leads = λ {mode} {ts} {i} {n} {j} {t} h s. elim (h.first) [
-    | Either.left a ↦ leads_typing.leads a.read tt
-    | Either.right b ↦ subst (SomeName ts) b.end (t.1.1, (numbered_parts mode ts h.middle n j t.1 h.second).1)
-  ];
-}
-
 pub leads_result : Leads (Seq Result Numbered) Anywhere SomeName
 unfolding Result
 leads_result = record {
@@ -483,12 +475,6 @@ leads_result = record {
     | Either.right b ↦ subst (SomeName ts) b.end (t.1.1, (numbered_parts mode ts h.middle n j t.1 h.second).1)
   ];
 }
-
-pub solid_maybe_typed : Solid (Seq (Maybe (Nested IsTyping)) Numbered)
-solid_maybe_typed = solid_before_name good_maybe_typing.sound
-
-pub solid_result : Solid (Seq Result Numbered)
-solid_result = solid_before_name good_result.sound
 
 -- The same with the number alone
 
@@ -503,10 +489,6 @@ only_typed_name = only_of _ only_typed
 pub good_maybe_name : Good MaybeTypedName
 unfolding MaybeTypedName
 good_maybe_name = good_of _ (good_seq good_maybe_typing good_numbered)
-
-pub only_maybe_name : Only MaybeTypedName EndsName
-unfolding MaybeTypedName
-only_maybe_name = only_of _ only_maybe_typed
 
 pub good_result_name : Good ResultName
 unfolding ResultName

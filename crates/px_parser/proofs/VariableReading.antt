@@ -27,9 +27,10 @@ use Rattle.px_parser.proofs.Shapely.{good_name, good_here, good_seq, good_of, go
 use Rattle.px_parser.proofs.Onlies.{leads_anywhere, only_name}
 use Rattle.px_parser.proofs.Steps.{Step, Never, Local, fails, many_more, step_first, step_second, step_of, step_left, step_many, step_twice, step_narrower, stuck_here, stuck_behind}
 use Rattle.px_parser.proofs.TokenShapes.{unread_at}
-use Rattle.px_parser.proofs.TokenSteps.{after_by, counted_by, placed_by, here_by, step_placed, step_here, step_after, step_counted}
+use Rattle.px_parser.proofs.TokenSteps.{after_by, counted_by, placed_by, here_by, step_after, step_counted}
 use Rattle.px_parser.proofs.ExprShapes.{good_expr, only_expr}
 use Rattle.px_parser.proofs.VariableShapes.{Value, IsComma, MoreDecls, LineEnd, MoreToEnd, equal_ends_no_decl, decl_past, good_value, only_value, good_named_value, solid_named_value, good_decl, good_more_decls, only_more, leads_more, comma_is_no_newline, only_more_decls, good_line_end, leads_line_end, good_more_to_end, leads_more_to_end, declarator_of}
+use Rattle.px_parser.proofs.PartSteps.{step_placed, step_here}
 
 -- The value of a variable
 

@@ -20,17 +20,18 @@ use Rattle.px_exprs.proofs.Keeping.{place_carried}
 use Rattle.px_exprs.proofs.Stops.{code_carried, kind_stops}
 use Rattle.px_exprs.proofs.TokenReading.{name_kind}
 use Rattle.px_exprs.proofs.TypeReading.{base_forward}
-use Rattle.px_parser.specs.Shapes.{Mode, Shape, Name, Here, Placed, Seq, Either, Many, Of, After, Before, Maybe, Several, Nested}
+use Rattle.px_parser.specs.Shapes.{Mode, Shape, Name, Here, Placed, Seq, Either, Many, After, Before, Maybe, Several, Nested}
 use Rattle.px_parser.specs.Readings.{Anywhere}
 use Rattle.px_parser.specs.Ends.{EndsDecl, EndsName, IsBefore}
 use Rattle.px_parser.specs.StatementGrammar.{IsWithinLimit, Decl, Decls, Declared, DeclareLine, GroupLine, DeclareGroup, Declare}
 use Rattle.px_parser.specs.ModuleGrammar.{Numbered}
 use Rattle.px_parser.specs.Parts.{TypedName, DeclRest}
-use Rattle.px_parser.proofs.Shapely.{Sound, Solid, Good, sound_seq, sound_name, sound_after, sound_here, good_name, good_here, good_seq, good_of, good_placed, good_either, good_many, good_after, good_before, good_maybe, good_several, good_separated}
+use Rattle.px_parser.proofs.Shapely.{Solid, Good, sound_seq, sound_name, sound_after, sound_here, good_name, good_here, good_seq, good_of, good_placed, good_either, good_many, good_after, good_before, good_maybe, good_several, good_separated}
 use Rattle.px_parser.proofs.Onlies.{Leads, Clash, Only, leads_token, leads_seq, leads_here, leads_placed, leads_of, leads_after, leads_either, leads_gives, leads_many, leads_wider, leads_anywhere, only_name, only_here, only_placed, only_seq, only_of, only_many, only_after, only_before, only_maybe, only_narrower}
 use Rattle.px_parser.proofs.Steps.{Alike}
-use Rattle.px_parser.proofs.ExprShapes.{good_expr, only_expr, solid_first}
+use Rattle.px_parser.proofs.ExprShapes.{good_expr, only_expr}
 use Rattle.px_parser.proofs.TypedNames.{good_typing, good_numbered, only_typed, base_names, numbered_parts, numbered_by}
+use Rattle.px_parser.proofs.KindLaws.{solid_name, solid_front, solid_back, solid_placed, solid_of, solid_either, solid_after}
 
 -- Tokens
 
@@ -51,30 +52,6 @@ decl_past ts i (inr line) = kind_stops line (omega arith)
 -- no identifier and no bracket
 pub high_ends_name : (ts : List Terminal) (i : ℕ) → 11 ≤ code_at ts i → EndsName ts i
 high_ends_name ts i high = (λ name h. omega (arith, name_code h, high), λ h. omega (arith, code_here h, high))
-
--- a token behind which a shape goes on
-pub solid_after : {A : Type 0} {X : Shape A} (k : TokenKind) → Sound X → Solid (After k X)
-solid_after k x = record { grows = λ h. omega (arith, h.read.first.end, x.forward h.read.second) }
-
-pub solid_name : Solid Name
-solid_name = record { grows = λ h. omega (arith, h.end) }
-
-pub solid_of : {A B : Type 0} {X : Shape A} (f : A → B) → Solid X → Solid (Of f X)
-solid_of f x = record { grows = λ h. x.grows h.read }
-
-pub solid_placed : {A : Type 0} {X : Shape A} → Solid X → Solid (Placed X)
-solid_placed x = record { grows = λ h. omega (arith, h.first.end, x.grows h.second) }
-
-pub solid_second : {A B : Type 0} {X : Shape A} {Y : Shape B} → Sound X → Solid Y → Solid (Seq X Y)
-solid_second x y = record { grows = λ h. omega (arith, x.forward h.first, y.grows h.second) }
-
-pub solid_either : {A : Type 0} {X Y : Shape A} → Solid X → Solid Y → Solid (Either X Y)
-solid_either x y = record {
-  grows = λ h. elim (h) [
-    | Either.left g ↦ x.grows g
-    | Either.right g ↦ y.grows g
-  ];
-}
 
 -- One variable
 
@@ -102,7 +79,7 @@ pub good_named_value : Good NamedValue
 good_named_value = good_seq good_name good_value
 
 pub solid_named_value : Solid NamedValue
-solid_named_value = solid_first solid_name good_value.sound
+solid_named_value = solid_front solid_name good_value.sound
 
 pub good_decl : Good Decl
 unfolding Decl
@@ -117,14 +94,10 @@ only_decl =
 
 pub solid_decl : Solid Decl
 unfolding Decl
-solid_decl = solid_of _ (solid_second sound_here (solid_placed solid_named_value))
+solid_decl = solid_of _ (solid_back sound_here (solid_placed solid_named_value))
 
 abbrev pub IsNameThere : Stops
 IsNameThere ts i = HasKind ts i kind.Name
-
-pub leads_decl : {R : Stops} → Leads Decl R IsNameThere
-unfolding Decl
-leads_decl {R} = leads_of _ (leads_here (leads_placed (leads_seq (record { leads = λ h r. name_kind h.stands }) (leads_anywhere Value R))))
 
 -- Several variables
 
@@ -153,17 +126,9 @@ pub good_decls : Good Decls
 unfolding Decls
 good_decls = good_separated _ good_decl
 
-pub only_decls : Only Decls (IsBefore kind.Newline)
-unfolding Decls
-only_decls = only_of _ (only_seq good_decl.sound good_more_decls.sound only_decl leads_more_decls only_more_decls)
-
-pub leads_decls : {R : Stops} → Leads Decls R IsNameThere
-unfolding Decls
-leads_decls {R} = leads_of _ (leads_seq leads_decl (leads_anywhere MoreDecls R))
-
 pub solid_decls : Solid Decls
 unfolding Decls
-solid_decls = solid_of _ (solid_first solid_decl good_more_decls.sound)
+solid_decls = solid_of _ (solid_front solid_decl good_more_decls.sound)
 
 -- The end of the line
 
@@ -211,7 +176,7 @@ leads_decl_rest = leads_seq leads_value leads_more_to_end
 
 pub solid_decl_rest : Solid DeclRest
 unfolding DeclRest
-solid_decl_rest = solid_second good_value.sound (solid_second good_more_decls.sound solid_line_end)
+solid_decl_rest = solid_back good_value.sound (solid_back good_more_decls.sound solid_line_end)
 
 -- A type, and variables
 
@@ -243,7 +208,7 @@ leads_declared = record { leads = λ h r. typing_begins_with_name h.first.read }
 
 pub solid_declared : Solid Declared
 unfolding Declared
-solid_declared = solid_second good_typing.sound (solid_first solid_decls good_line_end.sound)
+solid_declared = solid_back good_typing.sound (solid_front solid_decls good_line_end.sound)
 
 abbrev pub declarator_of : ℕ → Span → List ℕ → Option Expr → Declarator
 declarator_of number at name value = record { number = number; at = at; name = name; value = value }
@@ -475,10 +440,6 @@ only_group_line {S} =
     let declared : Only Declared S = only_declared in
     only_of _ (only_placed solid_declared declared)
 
-pub solid_group_line : Solid GroupLine
-unfolding GroupLine
-solid_group_line = solid_of _ (solid_placed solid_declared)
-
 pub leads_group_line : {R : Stops} → Leads GroupLine R IsNameThere
 unfolding GroupLine
 leads_group_line = leads_of _ (leads_placed leads_declared)
@@ -504,9 +465,6 @@ pub only_group_lines : Only GroupLines (IsBefore kind.Dedent)
 only_group_lines =
     let line : Only GroupLine Anywhere = only_group_line in
     only_of _ (only_seq good_group_line.sound good_more_lines.sound line (leads_anywhere (Many GroupLine) (IsBefore kind.Dedent)) only_more_lines)
-
-pub leads_group_lines : {R : Stops} → Leads GroupLines R IsNameThere
-leads_group_lines {R} = leads_of _ (leads_seq leads_group_line (leads_anywhere (Many GroupLine) R))
 
 -- A group
 

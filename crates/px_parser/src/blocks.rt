@@ -21,7 +21,7 @@ use crate::words::{dedent, indent, is_dedent, is_indent, is_newline, newline};
 use px_exprs::readings::Unread;
 use px_exprs::words::{is_keyword, place};
 use px_lexer::{Keyword, Tokens};
-use px_tree::Stmt;
+use px_tree::{Stmt, room_for_one};
 use sqlite_items::Items;
 use std::alloc::Global;
 
@@ -37,7 +37,7 @@ pub(crate) struct Statements<F> {
 pub(crate) fn alone(alloc: Global, statement: Stmt) -> Result<Items<Stmt>, Unread>
     ensures { MatchResult result (λ all. all ≡ statement ∷ []) (λ unread. unread ≡ NoMemory) }
 {
-    let mut all = Items::new(alloc);
+    let mut all = room_for_one(alloc)?;
     all.push(statement)?;
     Ok(all)
 }

@@ -23,8 +23,8 @@ use px_base::Span;
 use px_exprs::readings::Unread;
 use px_exprs::words::{is_keyword, is_word, place};
 use px_lexer::{Keyword, Operator, Tokens};
-use px_tree::{Arm, Expr, Stmt, StmtForm};
-use sqlite_items::Items;
+use px_tree::{Arm, Expr, Stmt, StmtForm, room_for_one};
+use sqlite_items::{Boxed, Items};
 use std::alloc::Global;
 
 /// The index of a `:` and the block behind it.
@@ -165,7 +165,7 @@ impl<F: Fn(Global, &Tokens, usize, usize) -> Result<Found<Items<Stmt>>, Unread>>
         let otherwise = self.otherwise(tokens, room, others.to)?;
         let number = first.tree.1.1.0;
         let to = otherwise.to;
-        let mut arms = Items::new(self.alloc);
+        let mut arms = room_for_one(self.alloc)?;
         arms.push(arm(from, first.tree))?;
         arms.append(others.tree)?;
         let tree = compound(tokens, from, number, StmtForm::If(arms, otherwise.tree));
@@ -216,7 +216,7 @@ impl<F: Fn(Global, &Tokens, usize, usize) -> Result<Found<Items<Stmt>>, Unread>>
         let body = self.body(tokens, room, value.to)?;
         let to = body.to;
         let (number, block) = body.tree;
-        let form = StmtForm::For(target.tree, value.tree, block);
+        let form = StmtForm::For(target.tree, Boxed::new(self.alloc, value.tree)?, block);
         let tree = compound(tokens, from, number, form);
         Ok(Found { tree, to })
     }

@@ -26,8 +26,8 @@ use px_base::Sequence;
 use px_exprs::readings::Unread;
 use px_exprs::words::{is_keyword, is_operator};
 use px_lexer::{Keyword, Operator, Tokens};
-use px_tree::{FunctionKind, ModuleItem, ModuleItems, ResultType, Stmt};
-use sqlite_items::Items;
+use px_tree::{Function, FunctionKind, ModuleItem, ModuleItems, ResultType, Stmt};
+use sqlite_items::{Boxed, Items};
 use std::alloc::Global;
 
 /// One item.
@@ -37,6 +37,13 @@ fn one(alloc: Global, item: ModuleItem) -> Result<ModuleItems, Unread>
     let mut all = Sequence::new(alloc);
     all.push(item)?;
     Ok(all)
+}
+
+/// A function as the one item.
+fn one_function(alloc: Global, function: Function) -> Result<ModuleItems, Unread>
+    ensures { MatchResult result (λ all. all ≡ module_item.Function function ∷ []) (λ unread. unread ≡ NoMemory) }
+{
+    one(alloc, ModuleItem::Function(Boxed::new(alloc, function)?))
 }
 
 /// Items, and more behind them.
@@ -79,7 +86,7 @@ fn c_item(alloc: Global, tokens: &Tokens, from: usize) -> Result<Found<ModuleIte
     }
     if is_keyword(tokens, from + 1, Keyword::Inline) {
         let found = function(alloc, tokens, from)?;
-        let tree = one(alloc, ModuleItem::Function(found.tree))?;
+        let tree = one_function(alloc, found.tree)?;
         return Ok(Found { tree, to: found.to });
     }
     let Found {
@@ -91,7 +98,7 @@ fn c_item(alloc: Global, tokens: &Tokens, from: usize) -> Result<Found<ModuleIte
         let head = (FunctionKind::Cdef, (false, (gives, number)));
         let none = Sequence::new(alloc);
         let made = function_with(alloc, tokens, from, none, from, head, found.tree)?;
-        let tree = one(alloc, ModuleItem::Function(made))?;
+        let tree = one_function(alloc, made)?;
         return Ok(Found { tree, to: found.to });
     }
     let ResultType::Of(typing) = gives else {
@@ -149,7 +156,7 @@ fn item(alloc: Global, tokens: &Tokens, from: usize) -> Result<Found<ModuleItems
     }
     if begins_function(tokens, from) {
         let found = function(alloc, tokens, from)?;
-        let tree = one(alloc, ModuleItem::Function(found.tree))?;
+        let tree = one_function(alloc, found.tree)?;
         return gone_on(tokens, tree, found.to);
     }
     if begins_import(tokens, from) {

@@ -17,8 +17,8 @@ use px_exprs::grammar;
 use px_exprs::readings::Unread;
 use px_exprs::words::{is_operator, keyword_at, place};
 use px_lexer::{Keyword, Operator, Tokens};
-use px_tree::{Expr, Stmt, StmtForm};
-use sqlite_items::Items;
+use px_tree::{Expr, Stmt, StmtForm, room_for_one};
+use sqlite_items::{Boxed, Items};
 use std::alloc::Global;
 
 /// `return`, with or without expressions.
@@ -45,7 +45,11 @@ fn returned(alloc: Global, tokens: &Tokens, from: usize) -> Result<Found<StmtFor
 ///
 /// # Errors
 /// As `simple`.
-fn raised_text(alloc: Global, tokens: &Tokens, from: usize) -> Result<Found<Option<Expr>>, Unread>
+fn raised_text(
+    alloc: Global,
+    tokens: &Tokens,
+    from: usize,
+) -> Result<Found<Option<Boxed<Expr>>>, Unread>
     requires input { IsListing tokens.now }
     requires inside { from < length tokens.now.list }
     ensures { ReadsFlat RaisedText Anywhere (terminals_of tokens.now) from result }
@@ -60,7 +64,7 @@ fn raised_text(alloc: Global, tokens: &Tokens, from: usize) -> Result<Found<Opti
     let text = grammar::expr(alloc, tokens, NESTING_LIMIT - 1, opening.to)?;
     let closing = operator(tokens, text.to, Operator::CloseParenthesis)?;
     Ok(Found {
-        tree: Some(text.tree),
+        tree: Some(Boxed::new(alloc, text.tree)?),
         to: closing.to,
     })
 }
@@ -150,7 +154,7 @@ pub fn line(alloc: Global, tokens: &Tokens, from: usize) -> Result<Found<Items<S
     requires inside { from < length tokens.now.list }
     ensures { ReadsFlat Line Anywhere (terminals_of tokens.now) from result }
 {
-    let mut tree = Items::new(alloc);
+    let mut tree = room_for_one(alloc)?;
     let first = simple(alloc, tokens, from)?;
     tree.push(first.tree)?;
     let mut to = first.to;

@@ -19,11 +19,12 @@ use crate::readings::Found;
 use crate::words::ended;
 use px_base::BinOp;
 use px_exprs::grammar;
+use px_exprs::operators::meaning;
 use px_exprs::readings::Unread;
-use px_exprs::words::{is_keyword, is_operator, operator_at};
+use px_exprs::words::{is_keyword, is_operator};
 use px_lexer::{Keyword, Operator, Tokens};
 use px_tree::{Expr, ExprForm, StmtForm, Trailer};
-use sqlite_items::Items;
+use sqlite_items::{Boxed, Items};
 use std::alloc::Global;
 
 /// Whether the last of these is a subscript.
@@ -78,21 +79,6 @@ const AUGMENTED: [(Operator, BinOp); 10] = [
     (Operator::RightShiftEqual, BinOp::Shr),
 ];
 
-/// What the operator at an index stands for in a table.
-fn meaning(table: &[(Operator, BinOp)], tokens: &Tokens, at: usize) -> Option<BinOp>
-    ensures { MatchOption result ((meant : BinOp) → IsOf table.now (terminals_of tokens.now) at meant → ⊥) (IsOf table.now (terminals_of tokens.now) at) }
-{
-    let Some(sign) = operator_at(tokens, at) else {
-        return None;
-    };
-    for row in table {
-        if row.0 == sign {
-            return Some(row.1);
-        }
-    }
-    None
-}
-
 /// The binary operator of an augmented assignment whose operator stands at an index.
 fn augmented_at(tokens: &Tokens, at: usize) -> Option<BinOp>
     ensures { MatchOption result ((meant : BinOp) → IsOf augmented (terminals_of tokens.now) at meant → ⊥) (IsOf augmented (terminals_of tokens.now) at) }
@@ -123,7 +109,8 @@ fn augmentation(
         return Err(Unread::Stuck(to));
     }
     let value = expr(alloc, tokens, to + 1)?;
-    ended(tokens, StmtForm::Augment(target, op, value.tree), value.to)
+    let form = StmtForm::Augment(target, op, Boxed::new(alloc, value.tree)?);
+    ended(tokens, form, value.to)
 }
 
 /// An assignment, or an augmented one, from an index on to where a simple statement ends.

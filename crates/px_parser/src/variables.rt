@@ -23,7 +23,7 @@ use crate::words::{dedent, identifier, indent, is_dedent, is_newline, keyword, n
 use px_exprs::readings::Unread;
 use px_exprs::words::{is_operator, name, place};
 use px_lexer::{Keyword, Operator, Tokens};
-use px_tree::{Declaration, Declarator, Expr, Stmt, StmtForm, Type};
+use px_tree::{Declaration, Declarator, Expr, Stmt, StmtForm, Type, room_for_one};
 use sqlite_items::Items;
 use std::alloc::Global;
 
@@ -130,7 +130,7 @@ pub(crate) fn variables(
         × (all ≡ record { number = number; at = at; name = spelled; value = value } ∷ others))
         (λ unread. unread ≡ NoMemory) }
 {
-    let mut all = Items::new(alloc);
+    let mut all = room_for_one(alloc)?;
     all.push(Declarator {
         number: number as u32,
         at: place(tokens, number),

@@ -11,6 +11,7 @@
 
 mod classes;
 mod expressions;
+mod lists;
 mod modules;
 mod names;
 mod statements;
@@ -21,6 +22,7 @@ pub use classes::{Class, ClassOf, Classes};
 pub use expressions::{
     Argument, CompareOp, Comparison, Entry, Expr, ExprForm, Item, Link, Texts, Trailer,
 };
+pub use lists::room_for_one;
 pub use modules::{
     Comment, Comments, Decorator, Decorators, ExceptionForm, Function, FunctionKind, Functions,
     Import, ImportForm, ImportedName, ImportedNames, Lock, Module, ModuleItem, ModuleItems, Param,

@@ -3,7 +3,7 @@ use crate::names::{FunctionName, Names};
 use crate::statements::Stmt;
 use crate::typings::Type;
 use px_base::{Bytes, Chars, Sequence, Span};
-use sqlite_items::Items;
+use sqlite_items::{Boxed, Items};
 
 /// A comment line before the first token, from its `#` to before its line end.
 #[derive(Debug, Drop)]
@@ -135,7 +135,7 @@ pub type Functions = Sequence<Function>;
 #[derive(Debug, Drop)]
 pub enum ModuleItem {
     Import(Import),
-    Function(Function),
+    Function(Boxed<Function>),
     Statement(Stmt),
 }
 

@@ -2,7 +2,7 @@ use crate::expressions::Expr;
 use crate::names::Names;
 use crate::typings::Type;
 use px_base::{BinOp, Chars, Span};
-use sqlite_items::Items;
+use sqlite_items::{Boxed, Items};
 
 /// A statement (Python Language Reference, 7 and 8; Cython user guide, Language Basics).
 #[cycle(statement)]
@@ -19,19 +19,19 @@ pub enum StmtForm {
     /// `targets = .. = value`, each list of targets in the order of the text; without targets an expression alone.
     Assign(Items<Expr>, Expr),
     /// `target op= value`
-    Augment(Expr, BinOp, Expr),
+    Augment(Expr, BinOp, Boxed<Expr>),
     Pass,
     Break,
     Continue,
     Return(Option<Expr>),
     /// `raise Kind` or `raise Kind()`, or `raise Kind(text)`.
-    Raise(Chars, Option<Expr>),
+    Raise(Chars, Option<Boxed<Expr>>),
     Global(Names),
     /// The arms of `if` and `elif`, one or more, and `else`.
     If(Items<Arm>, Option<Items<Stmt>>),
     While(Expr, Items<Stmt>),
     /// `for target in value`
-    For(Expr, Expr, Items<Stmt>),
+    For(Expr, Boxed<Expr>, Items<Stmt>),
     WithGil(Items<Stmt>),
     WithNogil(Items<Stmt>),
     /// `cdef` and variables of one type.

@@ -1,10 +1,17 @@
 use Rattle.std.proofs.Common.{◌≡◌, ℕ, List, None, Some, sym, ap, ◌∙◌, subst}
 use Rattle.std.specs.Prelude.{slice_get}
 use Rattle.std.proofs.lemmas.Result.{err_from_is_err_and}
-use Rattle.px_cli.specs.FirstForm.{IsUnbuiltAt, StopsAt}
+use Rattle.px_tree.specs.declared.modules.Function.{Function}
+use Rattle.px_tree.specs.declared.modules.ModuleItem.{ModuleItem}
+use Rattle.px_tree.specs.declared.modules.ModuleItem.TheVariants as module_item
+use Rattle.px_cli.specs.FirstRefusals.{IsUnbuiltAt, StopsAt}
 use Rattle.px_cli.specs.FirstMeaning.{Values, no_values, DoInTurn}
 use Rattle.px_cli.proofs.RefusalLemmas.{refused_weaker, refused_at, nothing_refused, first_refused, header_refused, body_refused, uncalled_refused, next_refused, further_refused, module_prints}
 use Rattle.px_cli.proofs.running.run_module.Goals as goal
+
+-- the item is the function that its box holds
+function_given : {item : ModuleItem} {boxed given : Function} → item ≡ module_item.Function boxed → given ≡ boxed → item ≡ module_item.Function given
+function_given is same = is ∙ ap (λ f. module_item.Function f) (sym same)
 
 pub returns-in_default-clause-refused : goal.returns-in_default-clause-refused
 returns-in_default-clause-refused c =
@@ -22,7 +29,7 @@ pub returns-then-not-is_main-clause-refused : goal.returns-then-not-is_main-clau
 returns-then-not-is_main-clause-refused c =
     let m = c.args.tree.now in
     let first : Some c.in-Some.first.now ≡ slice_get m.items 0 = c.in-Some.ensures ∙ ap (λ xs. slice_get xs 0) c.as_slice-items.ensures in
-    refused_at (List ℕ) c.in-Function.main.at c.refused-then-not-is_main.ensures (header_refused c.in-Some.first.now c.in-Function.main first c.in-Function.is c.if-not-is_main.ensures)
+    refused_at (List ℕ) c.get-main.result.now.at c.refused-then-not-is_main.ensures (header_refused c.in-Some.first.now c.get-main.result.now first (function_given c.in-Function.is c.get-main.ensures) c.if-not-is_main.ensures)
 
 pub returns-in_err-output-clause-refused : goal.returns-in_err-output-clause-refused
 returns-in_err-output-clause-refused c =
@@ -30,24 +37,24 @@ returns-in_err-output-clause-refused c =
     let first : Some c.in-Some.first.now ≡ slice_get m.items 0 = c.in-Some.ensures ∙ ap (λ xs. slice_get xs 0) c.as_slice-items.ensures in
     let p = err_from_is_err_and c.from_residual.result c.from_residual.ensures.1 in
     rw (p.1, p.2) (refused_weaker (List ℕ) (List ℕ) c.in_err-output.field-0.0 c.in_err-output.ensures.refused (λ refusal h.
-    (h.0, body_refused c.in-Some.first.now c.in-Function.main first c.in-Function.is c.if-not-is_main.ensures (subst (λ xs. StopsAt no_values xs h.0) c.as_slice.ensures h.1), h.2)))
+    (h.0, body_refused c.in-Some.first.now c.get-main.result.now first (function_given c.in-Function.is c.get-main.ensures) c.if-not-is_main.ensures (subst (λ xs. StopsAt no_values xs h.0) c.as_slice.ensures h.1), h.2)))
 
 pub returns-in_default-at-clause-refused : goal.returns-in_default-at-clause-refused
 returns-in_default-at-clause-refused c =
     let m = c.args.tree.now in
     let first : Some c.in-Some.first.now ≡ slice_get m.items 0 = c.in-Some.ensures ∙ ap (λ xs. slice_get xs 0) c.as_slice-items.ensures in
     let none : None ≡ slice_get m.items 1 = c.in_default-at.ensures ∙ ap (λ xs. slice_get xs 1) c.as_slice-items.ensures in
-    let done : (after : Values) × DoInTurn no_values c.in-Function.main.body after c.in_ok-output.output = subst (λ xs. (after : Values) × DoInTurn no_values xs after c.in_ok-output.output) c.as_slice.ensures c.in_ok-output.ensures.done in
-    refused_at (List ℕ) m.at c.refused-in_default-at.ensures (uncalled_refused c.in-Some.first.now c.in-Function.main first none c.in-Function.is c.if-not-is_main.ensures done)
+    let done : (after : Values) × DoInTurn no_values c.get-main.result.now.body after c.in_ok-output.output = subst (λ xs. (after : Values) × DoInTurn no_values xs after c.in_ok-output.output) c.as_slice.ensures c.in_ok-output.ensures.done in
+    refused_at (List ℕ) m.at c.refused-in_default-at.ensures (uncalled_refused c.in-Some.first.now c.get-main.result.now first none (function_given c.in-Function.is c.get-main.ensures) c.if-not-is_main.ensures done)
 
 pub returns-then-not-is_call-clause-refused : goal.returns-then-not-is_call-clause-refused
 returns-then-not-is_call-clause-refused c =
     let m = c.args.tree.now in
     let first : Some c.in-Some.first.now ≡ slice_get m.items 0 = c.in-Some.ensures ∙ ap (λ xs. slice_get xs 0) c.as_slice-items.ensures in
     let next : Some c.in-Some-at.next.now ≡ slice_get m.items 1 = c.in-Some-at.ensures ∙ ap (λ xs. slice_get xs 1) c.as_slice-items.ensures in
-    let done : (after : Values) × DoInTurn no_values c.in-Function.main.body after c.in_ok-output.output = subst (λ xs. (after : Values) × DoInTurn no_values xs after c.in_ok-output.output) c.as_slice.ensures c.in_ok-output.ensures.done in
+    let done : (after : Values) × DoInTurn no_values c.get-main.result.now.body after c.in_ok-output.output = subst (λ xs. (after : Values) × DoInTurn no_values xs after c.in_ok-output.output) c.as_slice.ensures c.in_ok-output.ensures.done in
     refused_at (List ℕ) c.place-then-not-is_call.result c.refused-then-not-is_call.ensures (subst (λ at. IsUnbuiltAt m at) (sym c.place-then-not-is_call.ensures)
-    (next_refused c.in-Some.first.now c.in-Some-at.next.now c.in-Function.main first next c.in-Function.is c.if-not-is_main.ensures done c.if-not-is_call.ensures))
+    (next_refused c.in-Some.first.now c.in-Some-at.next.now c.get-main.result.now first next (function_given c.in-Function.is c.get-main.ensures) c.if-not-is_main.ensures done c.if-not-is_call.ensures))
 
 pub returns-in-Some-at-2-clause-refused : goal.returns-in-Some-at-2-clause-refused
 returns-in-Some-at-2-clause-refused c =
@@ -55,9 +62,9 @@ returns-in-Some-at-2-clause-refused c =
     let first : Some c.in-Some.first.now ≡ slice_get m.items 0 = c.in-Some.ensures ∙ ap (λ xs. slice_get xs 0) c.as_slice-items.ensures in
     let next : Some c.in-Some-at.next.now ≡ slice_get m.items 1 = c.in-Some-at.ensures ∙ ap (λ xs. slice_get xs 1) c.as_slice-items.ensures in
     let third : Some c.in-Some-at-2.further.now ≡ slice_get m.items 2 = c.in-Some-at-2.ensures ∙ ap (λ xs. slice_get xs 2) c.as_slice-items.ensures in
-    let done : (after : Values) × DoInTurn no_values c.in-Function.main.body after c.in_ok-output.output = subst (λ xs. (after : Values) × DoInTurn no_values xs after c.in_ok-output.output) c.as_slice.ensures c.in_ok-output.ensures.done in
+    let done : (after : Values) × DoInTurn no_values c.get-main.result.now.body after c.in_ok-output.output = subst (λ xs. (after : Values) × DoInTurn no_values xs after c.in_ok-output.output) c.as_slice.ensures c.in_ok-output.ensures.done in
     refused_at (List ℕ) c.place-in-Some-at-2.result c.refused-in-Some-at-2.ensures (subst (λ at. IsUnbuiltAt m at) (sym c.place-in-Some-at-2.ensures)
-    (further_refused c.in-Some.first.now c.in-Some-at.next.now c.in-Some-at-2.further.now c.in-Function.main first next third c.in-Function.is c.if-not-is_main.ensures done c.if-not-is_call.ensures))
+    (further_refused c.in-Some.first.now c.in-Some-at.next.now c.in-Some-at-2.further.now c.get-main.result.now first next third (function_given c.in-Function.is c.get-main.ensures) c.if-not-is_main.ensures done c.if-not-is_call.ensures))
 
 pub returns-clause-done : goal.returns-clause-done
 returns-clause-done c =
@@ -65,5 +72,5 @@ returns-clause-done c =
     let first : Some c.in-Some.first.now ≡ slice_get m.items 0 = c.in-Some.ensures ∙ ap (λ xs. slice_get xs 0) c.as_slice-items.ensures in
     let next : Some c.in-Some-at.next.now ≡ slice_get m.items 1 = c.in-Some-at.ensures ∙ ap (λ xs. slice_get xs 1) c.as_slice-items.ensures in
     let none : None ≡ slice_get m.items 2 = c.in_default-at-2.ensures ∙ ap (λ xs. slice_get xs 2) c.as_slice-items.ensures in
-    let done : (after : Values) × DoInTurn no_values c.in-Function.main.body after c.in_ok-output.output = subst (λ xs. (after : Values) × DoInTurn no_values xs after c.in_ok-output.output) c.as_slice.ensures c.in_ok-output.ensures.done in
-    module_prints c.in-Some.first.now c.in-Some-at.next.now c.in-Function.main first next none c.in-Function.is c.if-not-is_main.ensures done c.if-not-is_call.ensures
+    let done : (after : Values) × DoInTurn no_values c.get-main.result.now.body after c.in_ok-output.output = subst (λ xs. (after : Values) × DoInTurn no_values xs after c.in_ok-output.output) c.as_slice.ensures c.in_ok-output.ensures.done in
+    module_prints c.in-Some.first.now c.in-Some-at.next.now c.get-main.result.now first next none (function_given c.in-Function.is c.get-main.ensures) c.if-not-is_main.ensures done c.if-not-is_call.ensures

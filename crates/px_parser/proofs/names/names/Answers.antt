@@ -4,7 +4,8 @@ use Rattle.px_lexer.specs.declared.token_list.TokenKind.TheVariants as kind
 use Rattle.px_exprs.specs.Inputs.{terminals_of}
 use Rattle.px_exprs.proofs.TokenReading.{length_terminals}
 use Rattle.px_parser.proofs.Steps.{fails}
-use Rattle.px_parser.proofs.SimpleSteps.{token_here, reading_inside, names_first, names_next, names_one, names_more}
+use Rattle.px_parser.proofs.SimpleSteps.{token_here, names_first, names_next, names_one, names_more}
+use Rattle.px_parser.proofs.TokenSteps.{reading_inside}
 use Rattle.px_parser.proofs.names.names.Goals as goal
 
 pub returns-in_err-first : goal.returns-in_err-first

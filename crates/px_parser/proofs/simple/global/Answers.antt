@@ -1,7 +1,8 @@
 use Rattle.std.proofs.lemmas.Result.{err_from_is_err_and}
 use Rattle.px_exprs.specs.Inputs.{terminals_of}
 use Rattle.px_parser.proofs.Steps.{fails}
-use Rattle.px_parser.proofs.SimpleSteps.{reading_inside, global_first, global_names, global_answer}
+use Rattle.px_parser.proofs.SimpleSteps.{global_first, global_names, global_answer}
+use Rattle.px_parser.proofs.TokenSteps.{reading_inside}
 use Rattle.px_parser.proofs.simple.global.Goals as goal
 
 pub returns-in_err-word : goal.returns-in_err-word

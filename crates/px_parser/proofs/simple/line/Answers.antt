@@ -3,18 +3,18 @@ use Rattle.std.proofs.lemmas.Result.{err_from_is_err_and}
 use Rattle.px_exprs.specs.Inputs.{terminals_of}
 use Rattle.px_parser.proofs.Steps.{fails}
 use Rattle.px_parser.proofs.SimpleShapes.{good_simple}
-use Rattle.px_parser.proofs.SimpleSteps.{reading_inside}
 use Rattle.px_parser.proofs.LineSteps.{EndsLine, line_begins, line_first, line_next, line_more, line_newline, line_exit, ends_newline, ends_read}
+use Rattle.px_parser.proofs.TokenSteps.{reading_inside}
 use Rattle.px_parser.proofs.simple.line.Goals as goal
 use Rattle.px_parser.proofs.simple.line.Goals.{then-loop-alloc-test+else-not-is_newline, else-loop-alloc-test, then-is_operator, else-is_operator}
 
 pub returns-in_err-first : goal.returns-in_err-first
 returns-in_err-first c =
-    let p = err_from_is_err_and c.from_residual.result c.from_residual.ensures.1 in
+    let p = err_from_is_err_and c.from_residual-in_err-first.result c.from_residual-in_err-first.ensures.1 in
     λ room. rw (p.1, p.2) (fails (line_first (terminals_of c.args.tokens.now) c.args.from room) _ (c.in_err-first.ensures room))
 
 pub loop-alloc-init : goal.loop-alloc-init
-loop-alloc-init c = rw (c.in_ok-push.ensures.ok, c.new-tree.ensures) ((λ room. line_begins (c.in_ok-first.ensures room)), reading_inside c.args.tokens.now (c.in_ok-first.ensures 0))
+loop-alloc-init c = rw (c.in_ok-push.ensures.ok, c.in_ok-tree.ensures) ((λ room. line_begins (c.in_ok-first.ensures room)), reading_inside c.args.tokens.now (c.in_ok-first.ensures 0))
 
 pub returns-in_err-next : goal.returns-in_err-next
 returns-in_err-next c =

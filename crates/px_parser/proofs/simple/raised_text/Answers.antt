@@ -4,8 +4,9 @@ use Rattle.px_lexer.specs.declared.spelling.Operator.TheVariants as sign
 use Rattle.px_lexer.specs.declared.token_list.TokenKind.TheVariants as kind
 use Rattle.px_exprs.specs.Inputs.{terminals_of}
 use Rattle.px_parser.proofs.Steps.{fails}
-use Rattle.px_parser.proofs.SimpleSteps.{token_here, reading_inside, text_first, text_inside, text_unclosed, text_none, text_read}
+use Rattle.px_parser.proofs.SimpleSteps.{token_here, text_first, text_inside, text_unclosed, text_none, text_read}
 use Rattle.px_parser.proofs.TextReadings.{text_unread, text_reading}
+use Rattle.px_parser.proofs.TokenSteps.{reading_inside}
 use Rattle.px_parser.proofs.simple.raised_text.Goals as goal
 
 pub returns-in_err-opening : goal.returns-in_err-opening
@@ -34,4 +35,4 @@ returns-in_err-closing c =
     λ room. rw (p.1, p.2) (text_unclosed (c.in_ok-opening.ensures room) (c.if-is_operator.ensures.fails refl) (text_reading room refl c.in_ok-text.ensures) _ (c.in_err-closing.ensures room))
 
 pub returns : goal.returns
-returns c = λ room. text_read (c.in_ok-opening.ensures room) (text_reading room refl c.in_ok-text.ensures) (c.in_ok-closing.ensures room)
+returns c = λ room. rw (c.in_ok-new.ensures) (text_read (c.in_ok-opening.ensures room) (text_reading room refl c.in_ok-text.ensures) (c.in_ok-closing.ensures room))

@@ -2,7 +2,8 @@ use Rattle.std.proofs.Common.{arith}
 use Rattle.std.proofs.lemmas.Result.{err_from_is_err_and}
 use Rattle.px_exprs.specs.Inputs.{terminals_of}
 use Rattle.px_parser.proofs.Steps.{fails}
-use Rattle.px_parser.proofs.SimpleSteps.{reading_inside, simple_first, simple_read}
+use Rattle.px_parser.proofs.SimpleSteps.{simple_first, simple_read}
+use Rattle.px_parser.proofs.TokenSteps.{reading_inside}
 use Rattle.px_parser.proofs.simple.simple.Goals as goal
 
 pub returns-in_err-found : goal.returns-in_err-found

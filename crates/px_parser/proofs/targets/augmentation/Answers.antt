@@ -26,4 +26,4 @@ returns-in_err-value c =
 
 pub returns : goal.returns
 returns c = λ room.
-    augmentation_read (record { read = c.requires.read; stands = c.requires.behind }) c.if-not-is_alone.false (c.is_target.ensures.holds c.if-not-is_target.false) room (c.in_ok-value.ensures room) c.ended.result c.ended.ensures
+    augmentation_read (record { read = c.requires.read; stands = c.requires.behind }) c.if-not-is_alone.false (c.is_target.ensures.holds c.if-not-is_target.false) room (c.in_ok-value.ensures room) c.in_ok-new.ensures c.ended.result c.ended.ensures

@@ -12,5 +12,5 @@ place-requires c = stands_within c.args.tokens.now c.args.number c.requires.name
 
 pub returns-in_err-name : goal.returns-in_err-name
 returns-in_err-name c =
-    let p = err_from_is_err_and c.from_residual.result c.from_residual.ensures.1 in
+    let p = err_from_is_err_and c.from_residual-in_err-name.result c.from_residual-in_err-name.ensures.1 in
     rw (p.1, p.2) (name_memory _ c.requires.named c.in_err-name.ensures)

@@ -2,7 +2,7 @@ use super::productions::{Part, Production, SYMBOL_COUNT, Symbol, tables};
 use std::alloc::{AllocError, Global};
 
 /// The productions, and what is looked up of them often.
-#[derive(Debug, Drop)]
+#[derive(Drop)]
 pub(super) struct Grammar {
     productions: Vec<Production>,
     /// How many parts stand in the productions before each, and one more for each of those.

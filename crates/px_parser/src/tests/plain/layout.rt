@@ -1,7 +1,7 @@
 use std::alloc::{AllocError, Global};
 
 /// The text of words, as far as it is laid out.
-#[derive(Debug, Drop)]
+#[derive(Drop)]
 pub(super) struct Layout {
     text: String,
     /// The indentation of the next line.

@@ -1,7 +1,7 @@
 use super::{expressions, modules, statements};
 
 /// What the rules of the grammar are called.
-#[derive(Clone, Copy, Debug, PartialEq, Eq)]
+#[derive(Clone, Copy, PartialEq, Eq)]
 pub(super) enum Symbol {
     Module,
     ModuleItems,
@@ -89,7 +89,7 @@ pub(super) enum Symbol {
 pub(super) const SYMBOL_COUNT: usize = Symbol::Axis as usize + 1;
 
 /// A part of a production.
-#[derive(Clone, Copy, Debug, PartialEq, Eq)]
+#[derive(Clone, Copy, PartialEq, Eq)]
 pub(super) enum Part {
     Is(Symbol),
     /// A token that is spelled so.

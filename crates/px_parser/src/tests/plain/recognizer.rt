@@ -10,7 +10,7 @@ pub(super) const TOKEN_LIMIT: usize = 63;
 const STATE_LIMIT: usize = 1_000_000;
 
 /// A production that is read from an index on up to before one of its parts, or behind the last.
-#[derive(Clone, Copy, Debug)]
+#[derive(Clone, Copy)]
 struct State {
     production: usize,
     /// The number of its parts that are read.
@@ -56,7 +56,7 @@ fn may_begin(tokens: &Tokens, first: Option<Part>, at: usize) -> bool {
 }
 
 /// The states at one index.
-#[derive(Debug, Drop)]
+#[derive(Drop)]
 struct Column {
     states: Vec<State>,
     /// For each place in a production the indices from which it is read up to there, each a bit.
@@ -147,7 +147,7 @@ impl Column {
 }
 
 /// What is read of tokens from their start on, by the states at each index that some module reaches.
-#[derive(Debug, Drop)]
+#[derive(Drop)]
 pub(super) struct Reading {
     columns: Vec<Column>,
 }

@@ -1,5 +1,5 @@
 /// The words of an alphabet in a row without order.
-#[derive(Debug, Drop)]
+#[derive(Drop)]
 pub(super) struct Shuffle {
     state: u64,
 }

@@ -61,7 +61,7 @@ fn goes_on(found: &Tokens, reading: &Reading) -> bool {
 }
 
 /// The grammar, and what was seen of the texts so far.
-#[derive(Debug, Drop)]
+#[derive(Drop)]
 pub(super) struct Trial {
     grammar: Grammar,
     accepted: u32,

@@ -37,7 +37,7 @@ returns-in_err-room g t c =
 pub loop-op-init : goal.loop-op-init
 loop-op-init g t c =
     let reading = c.in_ok-first.ensures in
-    run_begun (Past _) c.in_ok-room.room c.new-links.ensures reading.stops reading.within refl
+    run_begun (Past _) c.in_ok-room.room c.in_ok-links.ensures reading.stops reading.within refl
 
 pub overflow_add-to : goal.overflow_add-to
 overflow_add-to g t c =

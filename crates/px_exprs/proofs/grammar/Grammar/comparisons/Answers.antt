@@ -10,14 +10,14 @@ use Rattle.px_exprs.proofs.ComparisonSteps.{begins_inside, begins_stops, operato
 use Rattle.px_exprs.proofs.grammar.Grammar.comparisons.Goals as goal
 
 pub loop-found-init : goal.loop-found-init
-loop-found-init g c = run_begun (Past 18) c.args.room c.new-found.ensures (begins_stops c.requires.begins) c.requires.inside (length_terminals c.args.tokens.now)
+loop-found-init g c = run_begun (Past 18) c.args.room c.in_ok-found.ensures (begins_stops c.requires.begins) c.requires.inside (length_terminals c.args.tokens.now)
 
 pub compare_operator-requires-clause-begins : goal.compare_operator-requires-clause-begins
 compare_operator-requires-clause-begins g c = c.begins_comparison.ensures.holds c.loop-found-test.true
 
 pub returns-in_err-op : goal.returns-in_err-op
 returns-in_err-op g c =
-    let p = err_from_is_err_and c.from_residual.result c.from_residual.ensures.1 in
+    let p = err_from_is_err_and c.from_residual-in_err-op.result c.from_residual-in_err-op.ensures.1 in
     let begins = c.begins_comparison.ensures.holds c.loop-found-test.true in
     let inside : suc c.loop-found.to < length (terminals_of c.args.tokens.now) = omega (arith, begins_inside c.args.tokens.now c.loop-found.to c.requires.input begins, length_terminals c.args.tokens.now) in
     rw (p.1, p.2) (operator_refused c.loop-found.invariant begins inside _ c.in_err-op.ensures.stuck)

@@ -11,11 +11,11 @@ use Rattle.px_exprs.proofs.grammar.Grammar.items.Goals as goal
 use Rattle.px_exprs.proofs.grammar.Grammar.items.Goals.{then-to-from, else-to-from+then-not-is_operator}
 
 pub loop-to-init : goal.loop-to-init
-loop-to-init g c = (list_begun IsItem c.new-items.ensures, omega arith, c.requires.inside)
+loop-to-init g c = (list_begun IsItem c.in_ok-items.ensures, omega arith, c.requires.inside)
 
 pub returns-in_err-next : goal.returns-in_err-next
 returns-in_err-next g c =
-    let p = err_from_is_err_and c.from_residual.result c.from_residual.ensures.1 in
+    let p = err_from_is_err_and c.from_residual-in_err-next.result c.from_residual-in_err-next.ensures.1 in
     let kept = c.loop-to.invariant in
     let begun : IsOperator (terminals_of c.args.tokens.now) c.loop-to.to sign.CloseBracket → c.loop-to.to ≡ c.args.from =
     elim c.if-to-from.branch [

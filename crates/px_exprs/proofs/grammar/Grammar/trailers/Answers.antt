@@ -4,11 +4,11 @@ use Rattle.px_exprs.proofs.TrailerSteps.{begins_past, trailers_begun, trailers_r
 use Rattle.px_exprs.proofs.grammar.Grammar.trailers.Goals as goal
 
 pub loop-found-init : goal.loop-found-init
-loop-found-init g c = (trailers_begun c.new-found.ensures, omega arith, begins_past c.requires.begins, c.requires.inside)
+loop-found-init g c = (trailers_begun c.in_ok-found.ensures, omega arith, begins_past c.requires.begins, c.requires.inside)
 
 pub returns-in_err-next : goal.returns-in_err-next
 returns-in_err-next g c =
-    let p = err_from_is_err_and c.from_residual.result c.from_residual.ensures.1 in
+    let p = err_from_is_err_and c.from_residual-in_err-next.result c.from_residual-in_err-next.ensures.1 in
     let kept = c.loop-found.invariant in
     rw (p.1, p.2) (trailers_refused kept.0 kept.1 (c.begins_trailer.ensures.holds c.loop-found-test.true) c.in_err-next.field-0.0 c.in_err-next.ensures)
 

@@ -4,7 +4,8 @@ use Rattle.px_lexer.specs.declared.spelling.Keyword.TheVariants as word
 use Rattle.px_exprs.specs.Inputs.{terminals_of}
 use Rattle.px_exprs.proofs.TokenReading.{length_terminals}
 use Rattle.px_parser.proofs.Steps.{fails}
-use Rattle.px_parser.proofs.BlockShapes.{solid_guarded, sound_block}
+use Rattle.px_parser.proofs.CompoundShapes.{solid_guarded}
+use Rattle.px_parser.proofs.BlockShapes.{sound_block}
 use Rattle.px_parser.proofs.CompoundSteps.{elifs_begun, elifs_on, elifs_refused, elifs_read, number_inside}
 use Rattle.px_parser.proofs.ReadingSteps.{inside_tokens, inside_terminals}
 use Rattle.px_parser.proofs.blocks.Statements.elifs.Goals as goal

@@ -48,4 +48,4 @@ pub compound-tree-requires-clause-small : goal.compound-tree-requires-clause-sma
 compound-tree-requires-clause-small g c = omega (arith, colon_inside c.in_ok-body.ensures, c.requires.input.input.few, length_terminals c.args.tokens.now)
 
 pub returns : goal.returns
-returns g c = for_built (c.in_ok-word.ensures c.args.room) (c.in_ok-target.ensures c.args.room) (c.in_ok-behind.ensures c.args.room) (c.in_ok-value.ensures c.args.room) c.in_ok-body.ensures c.compound-tree.ensures.1 c.compound-tree.ensures.2
+returns g c = for_built (c.in_ok-word.ensures c.args.room) (c.in_ok-target.ensures c.args.room) (c.in_ok-behind.ensures c.args.room) (c.in_ok-value.ensures c.args.room) c.in_ok-body.ensures c.compound-tree.ensures.1 c.in_ok-new.ensures c.compound-tree.ensures.2

@@ -33,7 +33,7 @@ pub arm-requires : goal.arm-requires
 arm-requires g c = omega (arith, number_inside word.If c.in_ok-first.ensures, c.requires.input.input.few, length_terminals c.args.tokens.now)
 
 pub returns : goal.returns
-returns g c = if_built c.in_ok-first.ensures c.in_ok-others.ensures c.in_ok-otherwise.ensures c.compound-tree.ensures.1 (rw (c.in_ok-append.ensures, c.in_ok-push.ensures.ok, c.arm.ensures, c.new-arms.ensures) refl) c.compound-tree.ensures.2
+returns g c = if_built c.in_ok-first.ensures c.in_ok-others.ensures c.in_ok-otherwise.ensures c.compound-tree.ensures.1 (rw (c.in_ok-append.ensures, c.in_ok-push.ensures.ok, c.arm.ensures, c.in_ok-arms.ensures) refl) c.compound-tree.ensures.2
 
 pub compound-tree-requires-clause-small : goal.compound-tree-requires-clause-small
 compound-tree-requires-clause-small g c = omega (arith, number_inside word.If c.in_ok-first.ensures, c.requires.input.input.few, length_terminals c.args.tokens.now)

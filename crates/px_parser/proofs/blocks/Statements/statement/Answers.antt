@@ -1,6 +1,7 @@
 use Rattle.std.proofs.lemmas.Result.{err_from_is_err_and}
 use Rattle.px_exprs.specs.Inputs.{terminals_of}
-use Rattle.px_parser.proofs.BlockShapes.{sound_block, only_block, only_while, only_for, only_with}
+use Rattle.px_parser.proofs.CompoundShapes.{only_while, only_for, only_with}
+use Rattle.px_parser.proofs.BlockShapes.{sound_block, only_block}
 use Rattle.px_parser.proofs.CompoundSteps.{good_while, good_for, good_with}
 use Rattle.px_parser.proofs.Heads.{IsOther, head_here, words_are_other}
 use Rattle.px_parser.proofs.VariableShapes.{good_declare, only_declare}
