@@ -1,3 +1,4 @@
 pub mod AdapterLemmas
+pub mod Facts
 pub mod FirstFindings
 pub mod MemoryLemmas

@@ -4,7 +4,9 @@ use Rattle.px_base.specs.declared.refusals.Refusal.{Refusal}
 
 -- whether a is b or comes before it: by the line, in one line by the column, and at one place by the number
 unfoldable pub comes_first : Refusal → Refusal → Bool
-comes_first a b = nat_lt a.line b.line || a.line == b.line && (nat_lt a.column b.column || a.column == b.column && nat_le a.number b.number)
+comes_first a b =
+    nat_lt a.line b.line
+    || a.line == b.line && (nat_lt a.column b.column || a.column == b.column && nat_le a.number b.number)
 
 -- the fact holds of no refusal, or it holds of this one, and of none that comes before it
 abbrev pub IsFirst : (Refusal → Type 0) → Option Refusal → Type 0

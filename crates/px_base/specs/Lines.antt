@@ -10,24 +10,28 @@ use Rattle.px_base.specs.declared.faults.Kind.TheVariants.{IndexError, ValueErro
 -- the texts of the refusals E1 to E27, each at its number
 unfoldable pub rule_texts : List (List ℕ)
 rule_texts =
-    codes "" ∷ codes "not UTF-8" ∷ codes "bad character, name or number" ∷ codes "bad indentation" ∷ codes "string not ended" ∷ codes "syntax" ∷
-    codes "nested too deep" ∷ codes "text too large" ∷ codes "float literal" ∷ codes "literal too wide" ∷ codes "unknown name" ∷
-    codes "name defined twice" ∷ codes "types do not fit" ∷ codes "wrong number of arguments" ∷ codes "object step without the lock" ∷
-    codes "call without the lock" ∷ codes "wrong lock change" ∷ codes "parallel loop with the lock held" ∷ codes "reduction variable read" ∷
-    codes "mixed reduction operators" ∷ codes "loop index assigned" ∷ codes "private variable read before it is assigned" ∷
-    codes "indeterminate variable read" ∷ codes "writes may overlap" ∷ codes "view or object assigned in a parallel loop" ∷
-    codes "nested parallel loop" ∷ codes "lock released in a section" ∷ codes "not in this language" ∷ []
+    codes "" ∷ codes "not UTF-8" ∷ codes "bad character, name or number" ∷ codes "bad indentation" ∷
+    codes "string not ended" ∷ codes "syntax" ∷ codes "nested too deep" ∷ codes "text too large" ∷
+    codes "float literal" ∷ codes "literal too wide" ∷ codes "unknown name" ∷ codes "name defined twice" ∷
+    codes "types do not fit" ∷ codes "wrong number of arguments" ∷ codes "object step without the lock" ∷
+    codes "call without the lock" ∷ codes "wrong lock change" ∷ codes "parallel loop with the lock held" ∷
+    codes "reduction variable read" ∷ codes "mixed reduction operators" ∷ codes "loop index assigned" ∷
+    codes "private variable read before it is assigned" ∷ codes "indeterminate variable read" ∷
+    codes "writes may overlap" ∷ codes "view or object assigned in a parallel loop" ∷ codes "nested parallel loop" ∷
+    codes "lock released in a section" ∷ codes "not in this language" ∷ []
 
 -- the texts of the faults of rows 1 to 34, each at its row
 unfoldable pub row_texts : List (List ℕ)
 row_texts =
-    codes "" ∷ codes "division by zero" ∷ codes "value too large" ∷ codes "division overflows" ∷ codes "int over 128 bits" ∷
-    codes "shift count out of range" ∷ codes "negative shift count" ∷ codes "step of zero" ∷ codes "team size out of range" ∷
-    codes "chunk size below one" ∷ codes "loop index does not fit" ∷ codes "too many iterations" ∷ codes "too many elements" ∷
-    codes "output too long" ∷ codes "index leaves its range" ∷ codes "views of a parallel loop overlap" ∷ codes "view shapes differ" ∷
-    codes "view is not contiguous" ∷ codes "buffer format differs" ∷ codes "bad array arguments" ∷ codes "an integer is required" ∷
-    codes "operands do not fit" ∷ codes "wrong kind of object" ∷ codes "not hashable" ∷ codes "index out of range" ∷
-    codes "no such method" ∷ codes "local variable not assigned" ∷ codes "name not assigned" ∷ codes "end of input" ∷
+    codes "" ∷ codes "division by zero" ∷ codes "value too large" ∷ codes "division overflows" ∷
+    codes "int over 128 bits" ∷ codes "shift count out of range" ∷ codes "negative shift count" ∷
+    codes "step of zero" ∷ codes "team size out of range" ∷ codes "chunk size below one" ∷
+    codes "loop index does not fit" ∷ codes "too many iterations" ∷ codes "too many elements" ∷
+    codes "output too long" ∷ codes "index leaves its range" ∷ codes "views of a parallel loop overlap" ∷
+    codes "view shapes differ" ∷ codes "view is not contiguous" ∷ codes "buffer format differs" ∷
+    codes "bad array arguments" ∷ codes "an integer is required" ∷ codes "operands do not fit" ∷
+    codes "wrong kind of object" ∷ codes "not hashable" ∷ codes "index out of range" ∷ codes "no such method" ∷
+    codes "local variable not assigned" ∷ codes "name not assigned" ∷ codes "end of input" ∷
     codes "invalid literal for int()" ∷ codes "input is not UTF-8" ∷ codes "too many levels" ∷
     codes "wrong number of values to unpack" ∷ codes "empty argument" ∷ codes "too many objects" ∷ []
 

@@ -26,13 +26,13 @@ pub record SinkState : Type 0 where
   pub faults : ℕ
 
 -- a file by the bytes of its name
-abbrev pub named : {A : Type 0} → String A × List ℕ → List ℕ × List ℕ
-named file = (string_bytes file.0, file.1)
+abbrev pub file_entry : {A : Type 0} → String A × List ℕ → List ℕ × List ℕ
+file_entry file = (string_bytes file.0, file.1)
 
 -- what a name stands for: of several files with that name the first
-abbrev pub found : List (List ℕ × List ℕ) → List ℕ → Option (List ℕ)
-found [] name = None
-found (file ∷ files) name = if bytes_eq file.0 name then Some file.1 else found files name
+abbrev pub content_of : List (List ℕ × List ℕ) → List ℕ → Option (List ℕ)
+content_of [] name = None
+content_of (file ∷ files) name = if bytes_eq file.0 name then Some file.1 else content_of files name
 
 -- one more, in a count of 64 bits that stands still at its greatest value
 abbrev pub one_more : ℕ → ℕ
@@ -47,6 +47,6 @@ abbrev pub faults_after : List ℕ → ℕ → ℕ → ℕ
 faults_after failing calls faults = if next_fails failing calls then one_more faults else faults
 
 -- how many bytes a call moved
-abbrev pub moved : {E : Type 0} → Result ℕ E → ℕ
-moved (Ok n) = n
-moved (Err trouble) = 0
+abbrev pub count_moved : {E : Type 0} → Result ℕ E → ℕ
+count_moved (Ok n) = n
+count_moved (Err trouble) = 0

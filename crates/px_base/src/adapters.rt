@@ -1,7 +1,7 @@
 ghost use Rattle.std.specs.Prelude.{◌≡◌, ◌<◌, ◌≤◌, length, take, Ok, IfOk, IfSome, OnErr, OnOk, IsErrOf, IsFalse, ◌⊎◌};
 ghost use Rattle.std.specs.Io.KnownBytes.{Keeps, IsAtEnd, prepend_known};
 ghost use Rattle.px_base.specs.Outside.{Rose, ModuleIsCalm, Reads, Takes, WriteIsCalm, handed_limit};
-ghost use Rattle.px_base.specs.Adapters.{faults_of_module, faults_of_read, is_write_fault, faults_of_write};
+ghost use Rattle.px_base.specs.Adapters.{AnswersOpened, answer_unopened, trouble_of_read, trouble_of_write, faults_of_module, faults_of_read, is_write_fault, faults_of_write};
 
 use crate::outside::{
     Gate, HANDED_LIMIT, Library, LibraryTrouble, Point, Sink, SinkTrouble, Source,
@@ -58,7 +58,7 @@ impl<R: rt::Files + Drop> Library for FolderLibrary<R> {
 
         ensures count { self.new ≡ faults_of_module self.old result }
     {
-        let given = file_front(&self.files, alloc, name);
+        let given = file_front(alloc, fs::open(&self.files, name));
         if let Err(LibraryTrouble::Failed) = given {
             self.faults = self.faults.saturating_add(1);
         }
@@ -66,23 +66,31 @@ impl<R: rt::Files + Drop> Library for FolderLibrary<R> {
     }
 }
 
-fn file_front<R: rt::Files>(
-    files: &R,
+/// What is given of a file, where this is what opening it answered.
+fn file_front<F: Read + Drop>(
     alloc: Global,
-    name: &str,
+    opened: io::Result<F>,
 ) -> Result<Option<Bytes>, LibraryTrouble>
-    ensures { IfOk result (λ given. IfSome given (λ bytes. length bytes ≤ handed_limit)) }
+    ensures short { IfOk result (λ given. IfSome given (λ bytes. length bytes ≤ handed_limit)) }
+    ensures opened { AnswersOpened F.remaining opened result }
 {
-    match fs::open(files, name) {
+    match opened {
         Ok(mut file) => {
             let bytes = front(alloc, &mut file)?;
             Ok(Some(bytes))
         }
-        Err(error) => match error.kind() {
-            ErrorKind::NotFound | ErrorKind::NotADirectory => Ok(None),
-            ErrorKind::OutOfMemory => Err(LibraryTrouble::NoMemory),
-            _ => Err(LibraryTrouble::Failed),
-        },
+        Err(error) => answer_unopened(error.kind()),
+    }
+}
+
+/// What is answered of a file that can't be opened, by the kind of the error.
+fn answer_unopened(kind: ErrorKind) -> Result<Option<Bytes>, LibraryTrouble>
+    ensures { result ≡ answer_unopened kind }
+{
+    match kind {
+        ErrorKind::NotFound | ErrorKind::NotADirectory => Ok(None),
+        ErrorKind::OutOfMemory => Err(LibraryTrouble::NoMemory),
+        _ => Err(LibraryTrouble::Failed),
     }
 }
 
@@ -106,7 +114,8 @@ fn has_more<S: Read>(stream: &mut S, bytes: &mut Bytes) -> Result<bool, LibraryT
     ensures short { length bytes.new ≤ handed_limit }
     ensures moved { IfOk result (λ _. Keeps (prepend_known bytes.old (S.remaining stream.old))
         (prepend_known bytes.new (S.remaining stream.new))) }
-    ensures ended { IfOk result (λ more. IsFalse more → IsAtEnd (S.remaining stream.new) ⊎ (length bytes.new ≡ handed_limit)) }
+    ensures ended { IfOk result (λ more.
+        IsFalse more → IsAtEnd (S.remaining stream.new) ⊎ (length bytes.new ≡ handed_limit)) }
 {
     let mut buffer = [0u8; PIECE];
     let room = (HANDED_LIMIT - bytes.len()).min(PIECE);
@@ -115,11 +124,21 @@ fn has_more<S: Read>(stream: &mut S, bytes: &mut Bytes) -> Result<bool, LibraryT
             bytes.extend_from_slice(&buffer[..n])?;
             Ok(n > 0 && bytes.len() < HANDED_LIMIT)
         }
-        Err(error) => match error.kind() {
-            ErrorKind::Interrupted => Ok(true),
-            ErrorKind::OutOfMemory => Err(LibraryTrouble::NoMemory),
-            _ => Err(LibraryTrouble::Failed),
+        Err(error) => match trouble_of_read(error.kind()) {
+            Some(trouble) => Err(trouble),
+            None => Ok(true),
         },
+    }
+}
+
+/// What a failed read of a file comes to, by the kind of the error, or `None` where a signal interrupted it.
+fn trouble_of_read(kind: ErrorKind) -> Option<LibraryTrouble>
+    ensures { result ≡ trouble_of_read kind }
+{
+    match kind {
+        ErrorKind::Interrupted => None,
+        ErrorKind::OutOfMemory => Some(LibraryTrouble::NoMemory),
+        _ => Some(LibraryTrouble::Failed),
     }
 }
 
@@ -255,18 +274,29 @@ fn try_write<W: Write>(stream: &mut W, piece: &[u8]) -> Result<usize, SinkTroubl
     'tries: for _ in 0..TRIES {
         match stream.write(piece) {
             Ok(n) => return Ok(n),
-            Err(error) => match error.kind() {
-                ErrorKind::Interrupted => {}
-                ErrorKind::OutOfMemory => return Err(SinkTrouble::NoMemory),
-                _ => return Err(SinkTrouble::Failed),
-            },
+            Err(error) => {
+                if let Some(trouble) = trouble_of_write(error.kind()) {
+                    return Err(trouble);
+                }
+            }
         }
     }
     Err(SinkTrouble::Failed)
 }
 
+/// What a failed write comes to, by the kind of the error, or `None` where a signal interrupted it.
+fn trouble_of_write(kind: ErrorKind) -> Option<SinkTrouble>
+    ensures { result ≡ trouble_of_write kind }
+{
+    match kind {
+        ErrorKind::Interrupted => None,
+        ErrorKind::OutOfMemory => Some(SinkTrouble::NoMemory),
+        _ => Some(SinkTrouble::Failed),
+    }
+}
+
 /// The gate of the program, which holds nobody.
-#[derive(Clone, Copy, Debug)]
+#[derive(Clone, Copy)]
 pub struct OpenGate;
 
 impl Gate for OpenGate {

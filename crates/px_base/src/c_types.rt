@@ -60,7 +60,7 @@ pub enum UnOp {
 }
 
 /// A comparison of two whole numbers.
-#[derive(Clone, Copy, Debug, PartialEq, Eq)]
+#[derive(Clone, Copy, PartialEq, Eq)]
 pub enum CmpOp {
     Lt,
     Gt,
@@ -71,7 +71,7 @@ pub enum CmpOp {
 }
 
 /// How the iterations of a `prange` are dealt to the members of a team.
-#[derive(Clone, Copy, Debug, PartialEq, Eq)]
+#[derive(Clone, Copy, PartialEq, Eq)]
 pub enum Schedule {
     Static,
     Dynamic,

@@ -2,7 +2,7 @@ use crate::sequences::Chars;
 use std::alloc::{AllocError, AllocFailed};
 
 /// The kind of a fault: those of Python first, then the two of this language.
-#[derive(Clone, Copy, Debug, PartialEq, Eq)]
+#[derive(Clone, Copy, PartialEq, Eq)]
 pub enum Kind {
     IndexError,
     ValueError,
@@ -21,7 +21,7 @@ pub enum Kind {
 }
 
 /// What a fault says behind its kind.
-#[derive(Debug, Drop)]
+#[derive(Drop)]
 pub enum Said {
     /// The text of this row, 1 to 34, of the table of fault texts.
     Row(u8),
@@ -32,14 +32,14 @@ pub enum Said {
 }
 
 /// A fault that a running module raises.
-#[derive(Debug, Drop)]
+#[derive(Drop)]
 pub struct Fault {
     pub kind: Kind,
     pub said: Said,
 }
 
 /// Why a step of a running module gives no result.
-#[derive(Debug, Drop)]
+#[derive(Drop)]
 pub enum StepTrouble {
     Raised(Fault),
     NoMemory,

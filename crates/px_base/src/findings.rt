@@ -39,7 +39,8 @@ pub fn first_in(findings: &[Refusal]) -> Option<Refusal>
 /// Every two refusals have an order, which goes on over a third; two that each come before the other are one.
 pub fn order_laws()
     ensures total { (a b : Refusal) → IsTrue (comes_first a b) ⊎ IsTrue (comes_first b a) }
-    ensures transitive { (a b c : Refusal) → IsTrue (comes_first a b) → IsTrue (comes_first b c) → IsTrue (comes_first a c) }
+    ensures transitive { (a b c : Refusal) →
+        IsTrue (comes_first a b) → IsTrue (comes_first b c) → IsTrue (comes_first a c) }
     ensures antisymmetric { (a b : Refusal) → IsTrue (comes_first a b) → IsTrue (comes_first b a) → a ≡ b }
 {}
 

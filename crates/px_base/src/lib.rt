@@ -24,6 +24,3 @@ pub use outside::{Gate, Library, LibraryTrouble, Point, Sink, SinkTrouble, Sourc
 pub use refusals::{Failed, NoMemory, Refusal, Span, Trouble};
 pub use sequences::{Bytes, Chars, Numbers, Sequence};
 pub use statuses::Status;
-
-#[cfg(test)]
-mod tests;

@@ -1,6 +1,6 @@
 ghost use Rattle.std.specs.Prelude.{◌≡◌, ℕ, ◌+◌, ◌<◌, ◌≤◌, ◌↔◌, ◌++◌, [], Some, Ok, Err, min, map, take, drop, length, IsTrue, IsErr, IfOk, OnErr, OnOk, IfSome, IsErrOf, option_copied, option_map};
 ghost use Rattle.px_base.specs.Outside.{Rose, Hands, ModuleIsCalm, Reads, Takes, WriteIsCalm, handed_limit};
-ghost use Rattle.px_base.specs.Memory.{named, found, one_more, next_fails, faults_after, moved};
+ghost use Rattle.px_base.specs.Memory.{file_entry, content_of, one_more, next_fails, faults_after, count_moved};
 
 use crate::outside::{HANDED_LIMIT, Library, LibraryTrouble, Sink, SinkTrouble, Source};
 use crate::refusals::Failed;
@@ -12,7 +12,7 @@ use std::marker::Model;
 pub type Files = Sequence<(String, Bytes)>;
 
 /// Counts calls and faults, and knows which calls are to fail.
-#[derive(Debug, Drop)]
+#[derive(Drop)]
 struct Calls {
     failing: Numbers,
     made: u64,
@@ -49,7 +49,7 @@ impl Calls {
 }
 
 /// A library in memory.
-#[derive(Debug, Drop)]
+#[derive(Drop)]
 pub struct MemoryLibrary {
     files: Files,
     calls: Calls,
@@ -57,12 +57,12 @@ pub struct MemoryLibrary {
 
 impl Model for MemoryLibrary {
     ghost use Rattle.std.specs.Prelude.{map};
-    ghost use Rattle.px_base.specs.Memory.{LibraryState, named};
+    ghost use Rattle.px_base.specs.Memory.{LibraryState, file_entry};
 
     ghost Value = { LibraryState };
 
     ghost view = { λ library. record {
-      files = map named library.files;
+      files = map file_entry library.files;
       failing = library.calls.failing;
       calls = library.calls.made;
       faults = library.calls.failed;
@@ -72,7 +72,7 @@ impl Model for MemoryLibrary {
 impl MemoryLibrary {
     /// A library of these files, whose calls with the numbers in `failing`, counted from 1, fail.
     pub fn new(files: Files, failing: Numbers) -> MemoryLibrary
-        ensures { result ≡ record { files = map named files; failing = failing; calls = 0; faults = 0 } }
+        ensures { result ≡ record { files = map file_entry files; failing = failing; calls = 0; faults = 0 } }
     {
         MemoryLibrary {
             files,
@@ -83,7 +83,7 @@ impl MemoryLibrary {
 
 /// The bytes of the first file of this name.
 fn find<'a>(files: &'a [(String, Bytes)], name: &str) -> Option<&'a Bytes>
-    ensures { option_copied result ≡ found (map named files.now) name.now }
+    ensures { option_copied result ≡ content_of (map file_entry files.now) name.now }
 {
     for (own, bytes) in files {
         if own.as_str() == name {
@@ -94,8 +94,13 @@ fn find<'a>(files: &'a [(String, Bytes)], name: &str) -> Option<&'a Bytes>
 }
 
 /// What a library of these files hands over for a name.
-fn handed(alloc: Global, files: &[(String, Bytes)], name: &str) -> Result<Option<Bytes>, AllocError>
-    ensures { IfOk result (λ given. given ≡ option_map (take handed_limit) (found (map named files.now) name.now)) }
+fn file_front(
+    alloc: Global,
+    files: &[(String, Bytes)],
+    name: &str,
+) -> Result<Option<Bytes>, AllocError>
+    ensures { IfOk result (λ given.
+        given ≡ option_map (take handed_limit) (content_of (map file_entry files.now) name.now)) }
 {
     match find(files, name) {
         None => Ok(None),
@@ -109,16 +114,16 @@ fn handed(alloc: Global, files: &[(String, Bytes)], name: &str) -> Result<Option
 
 impl Library for MemoryLibrary {
     ghost use Rattle.std.specs.Prelude.{Some};
-    ghost use Rattle.px_base.specs.Memory.{found};
+    ghost use Rattle.px_base.specs.Memory.{content_of};
 
-    ghost holds = { λ library. Some (found library.files) };
+    ghost holds = { λ library. Some (content_of library.files) };
 
     ghost faults = { λ library. library.faults };
 
     fn module(&mut self, alloc: Global, name: &str) -> Result<Option<Bytes>, LibraryTrouble>
-        ensures given { Hands (Some (found self.old.files)) name.now result }
+        ensures given { Hands (Some (content_of self.old.files)) name.now result }
         ensures short { IfOk result (λ given. IfSome given (λ bytes. length bytes ≤ handed_limit)) }
-        ensures map { Some (found self.new.files) ≡ Some (found self.old.files) }
+        ensures map { Some (content_of self.new.files) ≡ Some (content_of self.old.files) }
         ensures later { self.old.faults ≤ self.new.faults }
         ensures cause { IsErrOf result LibraryTrouble.Failed → Rose self.old.faults self.new.faults }
         ensures calm { ModuleIsCalm self.old.faults self.new.faults result }
@@ -132,13 +137,13 @@ impl Library for MemoryLibrary {
         if self.calls.next_fails() {
             return Err(LibraryTrouble::Failed);
         }
-        let given = handed(alloc, self.files.as_slice(), name)?;
+        let given = file_front(alloc, self.files.as_slice(), name)?;
         Ok(given)
     }
 }
 
 /// A source in memory.
-#[derive(Debug, Drop)]
+#[derive(Drop)]
 pub struct MemorySource {
     bytes: Bytes,
     at: usize,
@@ -205,9 +210,9 @@ impl Source for MemorySource {
 
         ensures failed { IsErr result ↔ IsTrue (next_fails self.old.failing self.old.calls) }
         ensures count { IfOk result (λ n. n ≡ min (min self.old.piece (length into.old)) (length self.old.left)) }
-        ensures buffer { into.new ≡ take (moved result) self.old.left ++ drop (moved result) into.old }
+        ensures buffer { into.new ≡ take (count_moved result) self.old.left ++ drop (count_moved result) into.old }
         ensures state { self.new ≡ record self.old {
-          left = drop (moved result) self.old.left;
+          left = drop (count_moved result) self.old.left;
           calls = one_more self.old.calls;
           faults = faults_after self.old.failing self.old.calls self.old.faults;
         } }
@@ -223,7 +228,7 @@ impl Source for MemorySource {
 }
 
 /// A sink in memory.
-#[derive(Debug, Drop)]
+#[derive(Drop)]
 pub struct MemorySink {
     bytes: Bytes,
     piece: usize,
@@ -287,7 +292,7 @@ impl Sink for MemorySink {
         ensures failed { (result ≡ Err SinkTrouble.Failed) ↔ IsTrue (next_fails self.old.failing self.old.calls) }
         ensures count { IfOk result (λ n. n ≡ min self.old.piece (length piece.now)) }
         ensures state { self.new ≡ record self.old {
-          taken = self.old.taken ++ take (moved result) piece.now;
+          taken = self.old.taken ++ take (count_moved result) piece.now;
           calls = one_more self.old.calls;
           faults = faults_after self.old.failing self.old.calls self.old.faults;
         } }

@@ -1,7 +1,7 @@
 use crate::sequences::Chars;
 
 /// A method of an object, by its name.
-#[derive(Clone, Copy, Debug, PartialEq, Eq)]
+#[derive(Clone, Copy, PartialEq, Eq)]
 pub enum Method {
     Append,
     Pop,
@@ -19,7 +19,7 @@ pub enum Method {
 }
 
 /// A builtin function.
-#[derive(Clone, Copy, Debug, PartialEq, Eq)]
+#[derive(Clone, Copy, PartialEq, Eq)]
 pub enum Builtin {
     Print,
     Input,

@@ -79,7 +79,7 @@ pub trait Gate: Sync {
 }
 
 /// A point in the work of a member of a team.
-#[derive(Clone, Copy, Debug, PartialEq, Eq)]
+#[derive(Clone, Copy, PartialEq, Eq)]
 pub enum Point {
     /// Before its first instruction.
     Begins,

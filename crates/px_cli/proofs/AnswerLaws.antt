@@ -11,11 +11,11 @@ use Rattle.px_tree.specs.declared.modules.Function.{Function}
 use Rattle.px_tree.specs.declared.modules.ModuleItem.{ModuleItem}
 use Rattle.px_tree.specs.declared.modules.ModuleItem.TheVariants as module_item
 use Rattle.px_tree.specs.declared.modules.Module.{Module}
-use Rattle.px_exprs.specs.Inputs.{terminals_of}
+use Rattle.px_lexer.specs.Terminals.{terminals_of}
 use Rattle.px_parser.specs.Laws.{ParsingIsUnique}
 use Rattle.px_parser.specs.Parsing.{IsModuleOf, IsModuleRefused}
 use Rattle.px_cli.specs.FirstMeaning.{Values, no_values, DoInTurn, IsMain, Prints}
-use Rattle.px_cli.specs.FirstRefusals.{place_of, StopsAt, IsMainItem, IsCallItem, BeginsWithMain, IsUnbuiltAt, IsUnbuilt, not_built}
+use Rattle.px_cli.specs.FirstRefusals.{place_of, StopsAt, IsMainItem, IsCallItem, BeginsWithMain, IsUnbuiltAt, IsUnbuilt, unbuilt_refusal}
 use Rattle.px_cli.specs.Phases.{AreTokensOf, IsModuleText, IsRun, IsTextRefused}
 use Rattle.px_cli.specs.Laws.{AnswersAreUnique}
 use Rattle.px_cli.proofs.SameValues.{turns_same, stops_or_does, stops_same}
@@ -66,7 +66,7 @@ stands_once (StandsAt.behind header does ends) (StandsAt.in_main again stops) = 
 stands_once (StandsAt.behind header does ends) (StandsAt.behind again same stop) = ends_once ends stop
 
 unbuilt_once : {m : Module} {refusal other : Refusal} → IsUnbuilt m refusal → IsUnbuilt m other → refusal ≡ other
-unbuilt_once a b = a.2 ∙ ap not_built (stands_once (by_items a.1) (by_items b.1)) ∙ sym b.2
+unbuilt_once a b = a.given ∙ ap unbuilt_refusal (stands_once (by_items a.stands) (by_items b.stands)) ∙ sym b.given
 
 -- What a module prints: one output, and nothing where it is refused
 
@@ -85,7 +85,7 @@ prints_or_stands header does call (StandsAt.in_main again stops) = stops_or_does
 prints_or_stands header does call (StandsAt.behind again same (EndsAt.other_next none place)) = none call
 
 prints_or_refused : {m : Module} {output : List ℕ} {refusal : Refusal} → Prints m output → IsUnbuilt m refusal → ⊥
-prints_or_refused {m} p r = prints_or_stands {call = module_item.Statement p.call} p.header p.does p.called (subst (λ xs. StandsAt m.at xs r.0) p.items (by_items r.1))
+prints_or_refused {m} p r = prints_or_stands {call = module_item.Statement p.call} p.header p.does p.called (subst (λ xs. StandsAt m.at xs r.at) p.items (by_items r.stands))
 
 -- What a text is: one list of tokens, and one module
 

@@ -1,5 +1,5 @@
 -- Calls, told by one level of their trees.
-use Rattle.std.proofs.Common.{◌≡◌, ◌==◌, ℕ, List, [], ◌∷◌, length, Bool, true, false, MatchBool, None, sym, ap, ◌∙◌, subst, arith}
+use Rattle.std.proofs.Common.{◌≡◌, ◌==◌, ℕ, List, [], ◌∷◌, length, Bool, true, false, ◌↔◌, IsTrue, None, refl, sym, ap, ◌∙◌, subst, arith}
 use Rattle.std.specs.Prelude.{codes, is_some}
 use Rattle.std.proofs.lemmas.Bool.{false≢true}
 use Rattle.std.proofs.lemmas.Bool.Decides.{Decides-eqb}
@@ -61,14 +61,17 @@ call_assigned s targets call is stands some h =
     some (same_assign targets [] call calls.call stands calls.stands).0
 
 pub call_told : {item : ModuleItem} (s : Stmt) (targets : List Expr) (call : Expr) (arguments : List Argument) (r : Bool) → item ≡ module_item.Statement s → s.form ≡ stmt_form.Assign targets call → targets ≡ [] → IsCall (codes "main") call arguments
-    → r ≡ (length arguments == 0) → MatchBool r (IsCallItem item) (IsCallItem item → ⊥)
-call_told s targets call [] true is stands none call_is empty = subst IsCallItem (sym is) (record { call = call; stands = stands ∙ ap (λ ts. stmt_form.Assign ts call) none; is = call_is })
+    → r ≡ (length arguments == 0) → IsTrue r ↔ IsCallItem item
+call_told s targets call [] true is stands none call_is empty = (λ yes. subst IsCallItem (sym is) (record { call = call; stands = stands ∙ ap (λ ts. stmt_form.Assign ts call) none; is = call_is }), λ h. refl)
 call_told s targets call (a ∷ others) true is stands none call_is empty = absurd (omega (arith, (Decides-eqb (length (a ∷ others)) 0).0 (sym empty)))
 call_told s targets call [] false is stands none call_is empty = absurd (false≢true empty)
-call_told s targets call (a ∷ others) false is stands none call_is empty = λ h.
-    let calls : CallsMain s = subst IsCallItem is h in
-    let same : a ∷ others ≡ [] = same_arguments call_is (subst (λ e. IsCall (codes "main") e []) (sym (same_assign targets [] call calls.call stands calls.stands).1) calls.is) in
-    absurd cc
+call_told s targets call (a ∷ others) false is stands none call_is empty = (
+  λ yes. absurd (false≢true yes),
+  λ h.
+      let calls : CallsMain s = subst IsCallItem is h in
+      let same : a ∷ others ≡ [] = same_arguments call_is (subst (λ e. IsCall (codes "main") e []) (sym (same_assign targets [] call calls.call stands calls.stands).1) calls.is) in
+      absurd cc,
+)
 
 -- what is told of a call
 

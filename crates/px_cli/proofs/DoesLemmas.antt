@@ -8,8 +8,8 @@ use Rattle.px_tree.specs.declared.statements.Stmt.{Stmt}
 use Rattle.px_tree.specs.declared.statements.StmtForm.TheVariants as stmt_form
 use Rattle.px_tree.specs.declared.statements.Declaration.{Declaration}
 use Rattle.px_tree.specs.declared.statements.Declarator.{Declarator}
-use Rattle.px_cli.specs.FirstMeaning.{Values, SumIs, Sets, DeclaresOne, IsCall, Does}
-use Rattle.px_cli.specs.Held.{BeginsAs}
+use Rattle.px_cli.specs.FirstMeaning.{Values, SumIs, Assigns, DeclaresOne, IsCall, Does}
+use Rattle.px_cli.specs.KeptValues.{BeginsAs}
 use Rattle.px_cli.proofs.StatementLemmas.{same_declaration, same_assign, declare_or_assign}
 use Rattle.px_cli.proofs.CallLemmas.{same_arguments}
 
@@ -39,8 +39,8 @@ declare_fails {values} d declarator stands one none does =
     let told = declare_told d stands does in
     none told.value (subst (λ x. BeginsAs values x told.value) (one_declarator told.one one) told.starts)
 
-pub declare_does : {values after : Values} {s : Stmt} (declarator : Declarator) (value : ℤ) → DeclaresOne values s declarator → BeginsAs values declarator value → Sets values declarator.name value after → Does values s after []
-declare_does {values} {after} declarator value one (inl none) sets = Does.declares declarator one none.0 (subst (λ v. Sets values declarator.name v after) none.1 sets) refl
+pub declare_does : {values after : Values} {s : Stmt} (declarator : Declarator) (value : ℤ) → DeclaresOne values s declarator → BeginsAs values declarator value → Assigns values declarator.name value after → Does values s after []
+declare_does {values} {after} declarator value one (inl none) sets = Does.declares declarator one none.0 (subst (λ v. Assigns values declarator.name v after) none.1 sets) refl
 declare_does declarator value one (inr some) sets = Does.begins declarator some.0 value one some.1 some.2 sets refl
 
 no_value : {e : Expr} {value : Option Expr} → value ≡ None → value ≡ Some e → ⊥
@@ -56,7 +56,7 @@ begun_told values declarator e (Some v) some sum = inr (e, some, sum)
 
 -- Assignments
 
-pub record Assigns (values : Values) (targets : List Expr) (e : Expr) : Type 0 where
+pub record AssignsOne (values : Values) (targets : List Expr) (e : Expr) : Type 0 where
   pub target : Expr
   pub name : List ℕ
   pub old : ℤ
@@ -66,7 +66,7 @@ pub record Assigns (values : Values) (targets : List Expr) (e : Expr) : Type 0 w
   pub declared : values name ≡ Some old
   pub sum : SumIs values e value
 
-pub assign_told : {values after : Values} {s : Stmt} {printed : List ℕ} (targets : List Expr) (e : Expr) → s.form ≡ stmt_form.Assign targets e → targets ≢ [] → Does values s after printed → Assigns values targets e
+pub assign_told : {values after : Values} {s : Stmt} {printed : List ℕ} (targets : List Expr) (e : Expr) → s.form ≡ stmt_form.Assign targets e → targets ≢ [] → Does values s after printed → AssignsOne values targets e
 assign_told targets e stands some (Does.declares declarator one none sets silent) = absurd (declare_or_assign one.declaration targets e one.stands stands)
 assign_told targets e stands some (Does.begins declarator given value one value_is sum sets silent) = absurd (declare_or_assign one.declaration targets e one.stands stands)
 assign_told {values} targets e stands some (Does.assigns target given name old value form_is named declared sum sets silent) =

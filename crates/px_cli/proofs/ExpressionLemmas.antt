@@ -1,5 +1,5 @@
 -- Sums, products and atoms: each has one value at most, and is told by one level of its tree.
-use Rattle.std.proofs.Common.{◌≡◌, ℕ, zero, suc, ◌+◌, ◌<◌, ◌≤◌, ◌⊎◌, inl, inr, MatchOption, MatchBool, Bool, true, false, ℤ, ◌+ℤ◌, ◌-ℤ◌, ◌*ℤ◌, List, [], ◌∷◌, length, drop, slice_index_or, Option, Some, None, refl, sym, ap, ◌∙◌, subst, arith}
+use Rattle.std.proofs.Common.{◌≡◌, ℕ, zero, suc, ◌+◌, ◌<◌, ◌≤◌, ◌⊎◌, inl, inr, MatchOption, ◌↔◌, IsTrue, Bool, ℤ, ◌+ℤ◌, ◌-ℤ◌, ◌*ℤ◌, List, [], ◌∷◌, length, drop, slice_index_or, Option, Some, None, refl, sym, ap, ◌∙◌, subst, arith}
 use Rattle.std.specs.Prelude.{slice_get}
 use Rattle.px_base.specs.declared.c_types.BinOp.TheVariants.{Add, Sub, Mul}
 use Rattle.px_base.specs.declared.c_types.CType.TheVariants.{Long}
@@ -19,7 +19,7 @@ use Rattle.px_tree.specs.declared.expressions.Item.{Item}
 use Rattle.px_tree.specs.declared.expressions.Link.{Link}
 use Rattle.px_tree.specs.declared.expressions.Comparison.{Comparison}
 use Rattle.px_cli.specs.FirstMeaning.{Values, AtomIs, FactorsGive, ProductIs, TermsGive, SumIs}
-use Rattle.px_cli.specs.Held.{AreLongs, BeginsWithTerm, IsTerm}
+use Rattle.px_cli.specs.KeptValues.{AreLongs, BeginsWithTerm, IsTerm}
 
 -- One level
 
@@ -300,10 +300,12 @@ terms_told values e first begun links None is begins product h = λ v p.
 terms_told values e first begun links (Some w) is begins product h = sum_made {first = first} {links = links} is begins product h
 
 -- the first of some links is told
-pub begins_told : (links : List Link) (link : Link) (r : Bool) → Some link ≡ slice_get links 0 → MatchBool r (IsTerm link.op) (IsTerm link.op → ⊥) → MatchBool r (BeginsWithTerm links) (BeginsWithTerm links → ⊥)
+pub begins_told : (links : List Link) (link : Link) (r : Bool) → Some link ≡ slice_get links 0 → IsTrue r ↔ IsTerm link.op → IsTrue r ↔ BeginsWithTerm links
 begins_told [] link r is h = absurd cc
-begins_told (first ∷ others) link true is h = record { link = first; others = others; are = refl; term = let same : link ≡ first = cc in subst (λ (l : Link). IsTerm l.op) same h }
-begins_told (first ∷ others) link false is h = λ begins.
-    let given = begins.are in
-    let same : begins.link ≡ link = cc in
-    h (subst (λ (l : Link). IsTerm l.op) same begins.term)
+begins_told (first ∷ others) link r is h = (
+  λ yes. record { link = first; others = others; are = refl; term = let same : link ≡ first = cc in subst (λ (l : Link). IsTerm l.op) same (h.0 yes) },
+  λ begins.
+      let given = begins.are in
+      let same : begins.link ≡ link = cc in
+      h.1 (subst (λ (l : Link). IsTerm l.op) same begins.term),
+)

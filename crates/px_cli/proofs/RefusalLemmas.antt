@@ -12,14 +12,14 @@ use Rattle.px_tree.specs.declared.modules.ModuleItem.{ModuleItem}
 use Rattle.px_tree.specs.declared.modules.ModuleItem.TheVariants as module_item
 use Rattle.px_tree.specs.declared.modules.Module.{Module}
 use Rattle.px_cli.specs.FirstMeaning.{Values, no_values, DoInTurn, IsMain, Prints}
-use Rattle.px_cli.specs.FirstRefusals.{StopsAt, IsMainItem, IsCallItem, BeginsWithMain, IsUnbuiltAt, IsUnbuilt, not_built, place_of}
+use Rattle.px_cli.specs.FirstRefusals.{StopsAt, IsMainItem, IsCallItem, BeginsWithMain, IsUnbuiltAt, IsUnbuilt, unbuilt_refusal, place_of}
 
 pub refused_weaker : (T U : Type 0) {P Q : Refusal → Type 0} (u : Trouble) → IfRefused {T = T} (Err u) P → ((refusal : Refusal) → P refusal → Q refusal) → IfRefused {T = U} (Err u) Q
 refused_weaker T U (trouble.Refused refusal) h weaker = weaker refusal h
 refused_weaker T U trouble.NoMemory h weaker = tt
 
-pub refused_at : (T : Type 0) {u : Trouble} {m : Module} (at : Span) → u ≡ trouble.Refused (not_built at) → IsUnbuiltAt m at → IfRefused {T = T} (Err u) (IsUnbuilt m)
-refused_at T {m = m} at is h = subst (λ x. IfRefused {T = T} (Err x) (IsUnbuilt m)) (sym is) (at, h, refl)
+pub refused_at : (T : Type 0) {u : Trouble} {m : Module} (at : Span) → u ≡ trouble.Refused (unbuilt_refusal at) → IsUnbuiltAt m at → IfRefused {T = T} (Err u) (IsUnbuilt m)
+refused_at T {m = m} at is h = subst (λ x. IfRefused {T = T} (Err x) (IsUnbuilt m)) (sym is) (record { at = at; stands = h; given = refl })
 
 -- The first items of a module
 

@@ -21,9 +21,9 @@ none_from None e = refl
 none_from (Some text) e = absurd (cc)
 
 -- the library gave nothing
-pub held_none : (map : Told) (file : List ℕ) → Hands {E = LibraryTrouble} map file (Ok None) → Holds map file None
-held_none None file given = tt
-held_none (Some held) file given = none_from (held file) given
+pub absent_from : (map : Told) (file : List ℕ) → Hands {E = LibraryTrouble} map file (Ok None) → Holds map file None
+absent_from None file given = tt
+absent_from (Some holding) file given = none_from (holding file) given
 
 small_from : (found : Option (List ℕ)) (bytes : List ℕ) → length bytes ≤ module_limit → Some bytes ≡ option_map (take handed_limit) found → found ≡ Some bytes
 small_from None bytes small e = absurd (cc)
@@ -33,9 +33,9 @@ small_from (Some text) bytes small e =
     ap Some (sym (given ∙ take_all handed_limit text short))
 
 -- the library gave no more bytes than a module may have: these are all that it holds
-pub held_small : (map : Told) (file bytes : List ℕ) → length bytes ≤ module_limit → Hands {E = LibraryTrouble} map file (Ok (Some bytes)) → Holds map file (Some bytes)
-held_small None file bytes small given = tt
-held_small (Some held) file bytes small given = small_from (held file) bytes small given
+pub content_from : (map : Told) (file bytes : List ℕ) → length bytes ≤ module_limit → Hands {E = LibraryTrouble} map file (Ok (Some bytes)) → Holds map file (Some bytes)
+content_from None file bytes small given = tt
+content_from (Some holding) file bytes small given = small_from (holding file) bytes small given
 
 large_from : (found : Option (List ℕ)) (bytes : List ℕ) → module_limit < length bytes → Some bytes ≡ option_map (take handed_limit) found → (text : List ℕ) × (found ≡ Some text) × (module_limit < length text)
 large_from None bytes large e = absurd (cc)
@@ -44,20 +44,20 @@ large_from (Some text) bytes large e =
     (text, refl, omega (arith, ap length given, length-take handed_limit text))
 
 -- the library gave more: so many it holds at least
-pub held_large : (map : Told) (file bytes : List ℕ) → module_limit < length bytes → Hands {E = LibraryTrouble} map file (Ok (Some bytes)) → (text : List ℕ) × Holds map file (Some text) × (module_limit < length text)
-held_large None file bytes large given = (bytes, tt, large)
-held_large (Some held) file bytes large given = large_from (held file) bytes large given
+pub large_content_from : (map : Told) (file bytes : List ℕ) → module_limit < length bytes → Hands {E = LibraryTrouble} map file (Ok (Some bytes)) → (text : List ℕ) × Holds map file (Some text) × (module_limit < length text)
+large_content_from None file bytes large given = (bytes, tt, large)
+large_content_from (Some holding) file bytes large given = large_from (holding file) bytes large given
 
 -- the answer for the bytes that the library gave is the answer of the call
 pub answer_for_module : (facts : Facts) (file bytes : List ℕ) (status : Status) (out err : List ℕ) → RunsFile facts.words file → Hands {E = LibraryTrouble} facts.map file (Ok (Some bytes)) → IsUnbroken facts →
     IsModuleAnswer file bytes status out err → IsAnswer facts status out err
 answer_for_module facts file bytes s.Done out err asked given unbroken (ran, silent, small) =
-    record { file = file; text = bytes; has = record { asked = asked; held = held_small facts.map file bytes small given; small = small; unbroken = unbroken }; ran = ran; silent = silent }
+    record { file = file; text = bytes; has = record { asked = asked; content = content_from facts.map file bytes small given; small = small; unbroken = unbroken }; ran = ran; silent = silent }
 answer_for_module facts file bytes s.Refused out err asked given unbroken (refusal, refused, no_output, line, small) =
-    record { file = file; text = bytes; refusal = refusal; has = record { asked = asked; held = held_small facts.map file bytes small given; small = small; unbroken = unbroken }; refused = refused; no_output = no_output; line = line }
+    record { file = file; text = bytes; refusal = refusal; has = record { asked = asked; content = content_from facts.map file bytes small given; small = small; unbroken = unbroken }; refused = refused; no_output = no_output; line = line }
 answer_for_module facts file bytes s.TooLarge out err asked given unbroken (large, no_output, line) =
-    let (text, held, long) = held_large facts.map file bytes large given in
-    record { file = file; text = text; asked = asked; held = held; large = long; unbroken = unbroken; no_output = no_output; line = line }
+    let (text, content, long) = large_content_from facts.map file bytes large given in
+    record { file = file; text = text; asked = asked; content = content; large = long; unbroken = unbroken; no_output = no_output; line = line }
 answer_for_module facts file bytes s.Usage out err asked given unbroken h = absurd h
 answer_for_module facts file bytes s.Raised out err asked given unbroken h = absurd h
 answer_for_module facts file bytes s.Spent out err asked given unbroken h = absurd h
@@ -70,7 +70,7 @@ answer_for_module facts file bytes s.NoFile out err asked given unbroken h = abs
 answer_for_no_file : (facts : Facts) (file : List ℕ) (reply : Reply) → reply ≡ record { status = s.NoFile; output = []; line = no_file_line file } → RunsFile facts.words file →
     Hands {E = LibraryTrouble} facts.map file (Ok None) → IsUnbroken facts → IsAnswer facts reply.status reply.output reply.line
 answer_for_no_file facts file reply is asked given unbroken =
-    subst (λ (r : Reply). IsAnswer facts r.status r.output r.line) (sym is) (record { file = file; asked = asked; unheld = held_none facts.map file given; unbroken = unbroken; no_output = refl; line = refl })
+    subst (λ (r : Reply). IsAnswer facts r.status r.output r.line) (sym is) (record { file = file; asked = asked; absent = absent_from facts.map file given; unbroken = unbroken; no_output = refl; line = refl })
 
 -- the reply is the answer of every call with these facts whose words ask for the file
 abbrev pub Answers : Told → ℕ → ℕ → List ℕ → Reply → Type 0

@@ -5,7 +5,7 @@ use Rattle.px_base.specs.declared.refusals.Span.{Span}
 use Rattle.px_tree.specs.declared.statements.Stmt.{Stmt}
 use Rattle.px_cli.specs.FirstMeaning.{Values, no_values, Does, DoInTurn}
 use Rattle.px_cli.specs.FirstRefusals.{StopsAt}
-use Rattle.px_cli.specs.Held.{AreLongs}
+use Rattle.px_cli.specs.KeptValues.{AreLongs}
 use Rattle.px_cli.proofs.ExpressionLemmas.{drop_first, drop_all}
 
 -- what the statements from a place on do, and what all of them do

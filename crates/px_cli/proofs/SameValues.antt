@@ -18,9 +18,9 @@ use Rattle.px_tree.specs.declared.statements.Stmt.{Stmt}
 use Rattle.px_tree.specs.declared.statements.StmtForm.TheVariants as stmt_form
 use Rattle.px_tree.specs.declared.statements.Declaration.{Declaration}
 use Rattle.px_tree.specs.declared.statements.Declarator.{Declarator}
-use Rattle.px_cli.specs.FirstMeaning.{Values, Sets, AtomIs, FactorsGive, ProductIs, TermsGive, SumIs, DeclaresOne, IsCall, Calls, Does, DoInTurn}
+use Rattle.px_cli.specs.FirstMeaning.{Values, Assigns, AtomIs, FactorsGive, ProductIs, TermsGive, SumIs, DeclaresOne, IsCall, Calls, Does, DoInTurn}
 use Rattle.px_cli.specs.FirstRefusals.{StopsAt}
-use Rattle.px_cli.specs.Held.{BeginsWithTerm, BeginsAs}
+use Rattle.px_cli.specs.KeptValues.{BeginsWithTerm, BeginsAs}
 use Rattle.px_cli.proofs.ExpressionLemmas.{same_name, product_unique, sum_chain}
 use Rattle.px_cli.proofs.StatementLemmas.{same_declaration, same_assign, declare_or_assign}
 use Rattle.px_cli.proofs.CallLemmas.{same_arguments}
@@ -88,7 +88,7 @@ sum_same {w = w} {value = value} same is a b = sum_unique (subst (λ x. SumIs w 
 
 -- Statements: what does something from the one does something from the other
 
-sets_over : {v w after : Values} {name : List ℕ} {value : ℤ} → Same v w → Sets v name value after → Sets w name value after
+sets_over : {v w after : Values} {name : List ℕ} {value : ℤ} → Same v w → Assigns v name value after → Assigns w name value after
 sets_over same sets = record { there = sets.there; others = λ other ne. sets.others other ne ∙ same other }
 
 declares_over : {v w : Values} {s : Stmt} {declarator : Declarator} → Same v w → DeclaresOne v s declarator → DeclaresOne w s declarator
@@ -103,7 +103,7 @@ does_over {w = w} same (Does.prints argument value calls unnamed sum kept is) = 
 
 -- Statements: from the same values they do the same
 
-sets_same : {v w after other : Values} {name : List ℕ} {value : ℤ} → Same v w → Sets v name value after → Sets w name value other → Same after other
+sets_same : {v w after other : Values} {name : List ℕ} {value : ℤ} → Same v w → Assigns v name value after → Assigns w name value other → Same after other
 sets_same {v} {w} {after} {other} {name} {value} same a b x = by_name (pointwise nat_eq x name) refl
   where
     by_name : (r : Bool) → r ≡ pointwise nat_eq x name → after x ≡ other x
@@ -136,15 +136,15 @@ begins_same d same (inr a) (inr b) = sum_same same (same_given a.1 b.1) a.2 b.2
 
 -- two statements that declare
 declared_same : {v w after other : Values} {s : Stmt} {d e : Declarator} {value found : ℤ} {printed more : List ℕ} → Same v w
-    → DeclaresOne v s d → BeginsAs v d value → Sets v d.name value after → printed ≡ [] → DeclaresOne w s e → BeginsAs w e found → Sets w e.name found other → more ≡ [] → IsSameOutcome after other printed more
+    → DeclaresOne v s d → BeginsAs v d value → Assigns v d.name value after → printed ≡ [] → DeclaresOne w s e → BeginsAs w e found → Assigns w e.name found other → more ≡ [] → IsSameOutcome after other printed more
 declared_same {w = w} {other = other} {d = d} {e = e} {value = value} {found = found} same one begins sets silent two starts puts still =
     let is = same_declarator one two in
     let again : BeginsAs w d found = subst (λ x. BeginsAs w x found) (sym is) starts in
-    let there : Sets w d.name found other = subst (λ (x : Declarator). Sets w x.name found other) (sym is) puts in
-    record { values = sets_same same sets (subst (λ n. Sets w d.name n other) (sym (begins_same d same begins again)) there); printed = silent ∙ sym still }
+    let there : Assigns w d.name found other = subst (λ (x : Declarator). Assigns w x.name found other) (sym is) puts in
+    record { values = sets_same same sets (subst (λ n. Assigns w d.name n other) (sym (begins_same d same begins again)) there); printed = silent ∙ sym still }
 
 after_declared : {v w after other : Values} {s : Stmt} {d : Declarator} {value : ℤ} {printed more : List ℕ} → Same v w
-    → DeclaresOne v s d → BeginsAs v d value → Sets v d.name value after → printed ≡ [] → Does w s other more → IsSameOutcome after other printed more
+    → DeclaresOne v s d → BeginsAs v d value → Assigns v d.name value after → printed ≡ [] → Does w s other more → IsSameOutcome after other printed more
 after_declared same one begins sets silent (Does.declares declarator two none puts still) = declared_same same one begins sets silent two (inl (none, refl)) puts still
 after_declared same one begins sets silent (Does.begins declarator e value two some sum puts still) = declared_same same one begins sets silent two (inr (e, some, sum)) puts still
 after_declared same one begins sets silent (Does.assigns target e name old value stands named there sum puts still) = absurd (declare_or_assign one.declaration (target ∷ []) e one.stands stands)
@@ -158,7 +158,7 @@ some_target e = absurd cc
 
 -- a statement that assigns
 after_assigned : {v w after other : Values} {s : Stmt} {value : ℤ} {printed more : List ℕ} (target e : Expr) (name : List ℕ) → Same v w
-    → s.form ≡ stmt_form.Assign (target ∷ []) e → target.form ≡ form.Name name → SumIs v e value → Sets v name value after → printed ≡ [] → Does w s other more → IsSameOutcome after other printed more
+    → s.form ≡ stmt_form.Assign (target ∷ []) e → target.form ≡ form.Name name → SumIs v e value → Assigns v name value after → printed ≡ [] → Does w s other more → IsSameOutcome after other printed more
 after_assigned target e name same stands named sum sets silent (Does.declares declarator two none puts still) = absurd (declare_or_assign two.declaration (target ∷ []) e two.stands stands)
 after_assigned target e name same stands named sum sets silent (Does.begins declarator f found two some second puts still) = absurd (declare_or_assign two.declaration (target ∷ []) e two.stands stands)
 after_assigned {w = w} {other = other} {value = value} target e name same stands named sum sets silent (Does.assigns aim f called old found form_is is there second puts still) =
@@ -166,8 +166,8 @@ after_assigned {w = w} {other = other} {value = value} target e name same stands
     let one : target ≡ aim = one_target both.0 in
     let names : name ≡ called = same_name (ap (λ (x : Expr). x.form) (sym one) ∙ named) is in
     let values : value ≡ found = sum_same same both.1 sum second in
-    let again : Sets w name found other = subst (λ x. Sets w x found other) (sym names) puts in
-    record { values = sets_same same sets (subst (λ n. Sets w name n other) (sym values) again); printed = silent ∙ sym still }
+    let again : Assigns w name found other = subst (λ x. Assigns w x found other) (sym names) puts in
+    record { values = sets_same same sets (subst (λ n. Assigns w name n other) (sym values) again); printed = silent ∙ sym still }
 after_assigned target e name same stands named sum sets silent (Does.prints argument value calls unnamed second kept is) = absurd (some_target (same_assign (target ∷ []) [] e calls.call stands calls.stands).0)
 
 one_argument : {a b : Argument} → a ∷ [] ≡ b ∷ [] → a ≡ b

@@ -8,8 +8,8 @@ use Rattle.std.proofs.lemmas.Slice.Eq.{slice_eq-Decides}
 use Rattle.indexmap.specs.IndexMap.{IndexMap, get_by, Updates}
 use Rattle.px_base.specs.declared.c_types.CType.TheVariants.{Long}
 use Rattle.px_ctypes.specs.Types.{IsInRange}
-use Rattle.px_cli.specs.FirstMeaning.{Values, Sets}
-use Rattle.px_cli.specs.Held.{AreLongs}
+use Rattle.px_cli.specs.FirstMeaning.{Values, Assigns}
+use Rattle.px_cli.specs.KeptValues.{AreLongs}
 
 pub equal : (xs ys : List ℕ) → pointwise nat_eq xs ys ≡ true → xs ≡ ys
 equal xs ys = (slice_eq-Decides Decides-eqb xs ys (pointwise nat_eq xs ys) refl).0
@@ -20,14 +20,14 @@ unequal false xs ys is other = refl
 
 -- what a map holds after one of its values is set
 pub sets : {S : Type 0} (m n : IndexMap (Bor (List ℕ)) ℤ S) (name : Bor (List ℕ)) (value : ℤ) → Updates (λ a b. pointwise nat_eq a.now b.now) m n name (Some value) →
-    Sets (λ x. get_by (λ kept. pointwise nat_eq x kept.now) m) name.now value (λ x. get_by (λ kept. pointwise nat_eq x kept.now) n)
+    Assigns (λ x. get_by (λ kept. pointwise nat_eq x kept.now) m) name.now value (λ x. get_by (λ kept. pointwise nat_eq x kept.now) n)
 sets m n name value updates = record {
   there = updates.1;
   others = λ other ne. updates.2 (record { ref_ptr = name.ref_ptr; now = other }) (unequal (pointwise nat_eq name.now other) name.now other refl (λ e. ne (sym e)));
 }
 
 -- where each value is a `long`, and another is set
-pub longs_after : {before after : Values} {name : List ℕ} {value : ℤ} → AreLongs before → IsInRange Long value → Sets before name value after → AreLongs after
+pub longs_after : {before after : Values} {name : List ℕ} {value : ℤ} → AreLongs before → IsInRange Long value → Assigns before name value after → AreLongs after
 longs_after {before} {after} {name} {value} longs long sets other v is =
     let b = pointwise nat_eq name other in
     elim (either b name other refl) [

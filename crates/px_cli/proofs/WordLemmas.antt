@@ -1,5 +1,4 @@
 use Rattle.std.proofs.Common.{◌≡◌, ◌<◌, ◌≤◌, ℕ, List, [], ◌∷◌, length, get_or, arith, ap, sym, ◌∙◌, refl, map, Bool, true, false, not, nat_eq, codes}
-use Rattle.std.proofs.lemmas.Option.{get_or_from_slice_get}
 use Rattle.px_cli.specs.Words.{RunsFile}
 use lib.Pointwise.{pointwise, bytes_decides}
 
@@ -32,5 +31,5 @@ asks_to_run bytes words command file text name n short long first second spelled
     record {
       spelled = ap (map bytes) two ∙ (λ i. run i ∷ sym named i ∷ []);
       nonempty = has_bytes name n counted some;
-      no_option = λ mark. unmarked (get_or_from_slice_get name 0 45 0 mark);
+      no_option = λ rest dashed. unmarked (ap (λ (text : List ℕ). get_or text 0 0) dashed);
     }

@@ -1,20 +1,18 @@
 -- What a call of the program answers: a status, what it writes on the standard output and on the standard error.
-use Rattle.std.specs.Prelude.{◌≡◌, ◌≢◌, ◌<◌, ◌≤◌, ◌⊎◌, ℕ, List, [], ◌∷◌, ◌++◌, Option, Some, None, length, codes}
+use Rattle.std.specs.Prelude.{◌≡◌, ◌≢◌, ◌<◌, ◌≤◌, ◌⊎◌, ℕ, List, [], ◌++◌, Option, Some, None, length, codes}
 use Rattle.std.specs.Io.KnownBytes.{Appends}
 use Rattle.px_base.specs.declared.statuses.Status.{Status}
 use Rattle.px_base.specs.declared.statuses.Status.TheVariants.{Done, Refused, Usage, Raised, Spent, ReadFault, WriteFault, NoMemory, NoFile, TooLarge}
 use Rattle.px_base.specs.declared.refusals.Refusal.{Refusal}
 use Rattle.px_base.specs.Lines.{refusal_text}
 use Rattle.px_base.specs.Outside.{Rose, Grows}
+use Rattle.px_cli.specs.LineEnds.{with_line_end}
 use Rattle.px_cli.specs.Phases.{IsRun, IsTextRefused}
 use Rattle.px_cli.specs.Words.{RunsFile}
 
 -- the greatest number of bytes of a module
 abbrev pub module_limit : ℕ
 module_limit = 1048576
-
-abbrev pub with_line_end : List ℕ → List ℕ
-with_line_end text = text ++ 10 ∷ []
 
 abbrev pub usage_line : List ℕ
 usage_line = with_line_end (codes "usage: pyxrun check FILE | list FILE | run FILE [--threads=T] [--turns=N] [--buffers] | simulate FILE --threads=T --seed=S [--turns=N] | generate SEED SIZE")
@@ -50,12 +48,12 @@ IsUnbroken facts = facts.faults_after ≡ facts.faults_before
 -- the library's map has this for the name, where the library tells it
 abbrev pub Holds : Option (List ℕ → Option (List ℕ)) → List ℕ → Option (List ℕ) → Type 0
 Holds None file given = Unit {0}
-Holds (Some held) file given = held file ≡ given
+Holds (Some map) file given = map file ≡ given
 
 -- the file that is to run is a module that isn't too large
 pub record HasModule (facts : Facts) (file text : List ℕ) : Type 0 where
   pub asked : RunsFile facts.words file
-  pub held : Holds facts.map file (Some text)
+  pub content : Holds facts.map file (Some text)
   pub small : length text ≤ module_limit
   pub unbroken : IsUnbroken facts
 
@@ -96,7 +94,7 @@ pub record IsReadFault (facts : Facts) (out err : List ℕ) : Type 0 where
 pub record IsNoFile (facts : Facts) (out err : List ℕ) : Type 0 where
   pub file : List ℕ
   pub asked : RunsFile facts.words file
-  pub unheld : Holds facts.map file None
+  pub absent : Holds facts.map file None
   pub unbroken : IsUnbroken facts
   pub no_output : out ≡ []
   pub line : err ≡ no_file_line file
@@ -106,7 +104,7 @@ pub record IsTooLarge (facts : Facts) (out err : List ℕ) : Type 0 where
   pub file : List ℕ
   pub text : List ℕ
   pub asked : RunsFile facts.words file
-  pub held : Holds facts.map file (Some text)
+  pub content : Holds facts.map file (Some text)
   pub large : module_limit < length text
   pub unbroken : IsUnbroken facts
   pub no_output : out ≡ []
@@ -133,8 +131,9 @@ pub record Taking : Type 0 where
   pub faults_after : ℕ
 
 -- what a sink took from one moment to another, and its counts of faults then
-abbrev pub taking : Option (List ℕ) → Option (List ℕ) → ℕ → ℕ → Taking
-taking before after faults_before faults_after = record { before = before; after = after; faults_before = faults_before; faults_after = faults_after }
+abbrev pub taking_of : Option (List ℕ) → Option (List ℕ) → ℕ → ℕ → Taking
+taking_of before after faults_before faults_after =
+    record { before = before; after = after; faults_before = faults_before; faults_after = faults_after }
 
 -- the sink took all of the text, a front of it, or nothing
 abbrev pub TookAll : Taking → List ℕ → Type 0

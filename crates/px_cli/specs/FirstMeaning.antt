@@ -1,7 +1,7 @@
--- The modules that `run` takes, and what they print: a function `main` of plain statements over `long` variables, and its call. A module
--- is of this form where it has a meaning here. Products and sums group from the left, and each result wraps to a `long` (ISO C11
--- 6.3.1.3, 6.5.5 and 6.5.6, with LP64).
-use Rattle.std.specs.Prelude.{◌≡◌, ◌≢◌, ℕ, ℤ, pos, ◌+ℤ◌, ◌-ℤ◌, ◌*ℤ◌, List, [], ◌∷◌, ◌++◌, Option, Some, None, false, Contains, codes}
+-- The modules that `run` takes, and what they print: a function `main` of plain statements over `long` variables, and its
+-- call. A module is of this form where it has a meaning here. Products and sums group from the left, and each result wraps to
+-- a `long` (ISO C11 6.3.1.3, 6.5.5 and 6.5.6, with LP64).
+use Rattle.std.specs.Prelude.{◌≡◌, ◌≢◌, ℕ, ℤ, pos, ◌+ℤ◌, ◌-ℤ◌, ◌*ℤ◌, List, [], ◌∷◌, ◌++◌, Option, Some, None, IsFalse, Contains, codes}
 use Rattle.std.specs.Fmt.{signed_decimal}
 use Rattle.px_base.specs.declared.c_types.CType.TheVariants.{Long}
 use Rattle.px_base.specs.declared.c_types.BinOp.TheVariants.{Add, Sub, Mul}
@@ -25,6 +25,7 @@ use Rattle.px_tree.specs.declared.modules.ExceptionForm.TheVariants as exception
 use Rattle.px_tree.specs.declared.modules.Lock.TheVariants as lock
 use Rattle.px_tree.specs.declared.modules.ModuleItem.TheVariants as module_item
 use Rattle.px_tree.specs.declared.modules.Module.{Module}
+use Rattle.px_cli.specs.LineEnds.{with_line_end}
 
 -- Variables
 
@@ -36,14 +37,15 @@ abbrev pub no_values : Values
 no_values name = None
 
 -- the same values, but that this variable has this one
-pub record Sets (before : Values) (name : List ℕ) (value : ℤ) (after : Values) : Type 0 where
+pub record Assigns (before : Values) (name : List ℕ) (value : ℤ) (after : Values) : Type 0 where
   pub there : after name ≡ Some value
   pub others : (other : List ℕ) → other ≢ name → after other ≡ before other
 
 -- the names that no variable may have: that of the function, and those of Cython's builtins
 abbrev pub reserved_names : List (List ℕ)
 reserved_names =
-    codes "main" ∷ codes "print" ∷ codes "input" ∷ codes "len" ∷ codes "int" ∷ codes "str" ∷ codes "repr" ∷ codes "bool" ∷ codes "list" ∷ codes "tuple" ∷ codes "abs" ∷ codes "min" ∷ codes "max" ∷ codes "range" ∷ []
+    codes "main" ∷ codes "print" ∷ codes "input" ∷ codes "len" ∷ codes "int" ∷ codes "str" ∷ codes "repr" ∷
+    codes "bool" ∷ codes "list" ∷ codes "tuple" ∷ codes "abs" ∷ codes "min" ∷ codes "max" ∷ codes "range" ∷ []
 
 -- Expressions
 
@@ -55,29 +57,36 @@ pub data AtomIs (values : Values) (e : Expr) (value : ℤ) : Type 0 where
 -- further factors, behind a product so far
 pub data FactorsGive (values : Values) : ℤ → List Link → ℤ → Type 0 where
   none : {product : ℤ} → FactorsGive values product [] product
-  times : {product value whole : ℤ} {link : Link} {links : List Link} → link.op ≡ Mul → AtomIs values link.operand value → FactorsGive values (wrap Long (product *ℤ value)) links whole → FactorsGive values product (link ∷ links) whole
+  times : {product value whole : ℤ} {link : Link} {links : List Link} → link.op ≡ Mul
+      → AtomIs values link.operand value → FactorsGive values (wrap Long (product *ℤ value)) links whole
+      → FactorsGive values product (link ∷ links) whole
 
 -- atom ('*' atom)*
 pub data ProductIs (values : Values) (e : Expr) (value : ℤ) : Type 0 where
   atom : AtomIs values e value → ProductIs values e value
-  chain : (first : Expr) (link : Link) (links : List Link) (begun : ℤ) → e.form ≡ form.Chain first (link ∷ links) → AtomIs values first begun → FactorsGive values begun (link ∷ links) value → ProductIs values e value
+  chain : (first : Expr) (link : Link) (links : List Link) (begun : ℤ) → e.form ≡ form.Chain first (link ∷ links)
+      → AtomIs values first begun → FactorsGive values begun (link ∷ links) value → ProductIs values e value
 
 -- further products, behind a sum so far
 pub data TermsGive (values : Values) : ℤ → List Link → ℤ → Type 0 where
   none : {sum : ℤ} → TermsGive values sum [] sum
-  plus : {sum value whole : ℤ} {link : Link} {links : List Link} → link.op ≡ Add → ProductIs values link.operand value → TermsGive values (wrap Long (sum +ℤ value)) links whole → TermsGive values sum (link ∷ links) whole
-  minus : {sum value whole : ℤ} {link : Link} {links : List Link} → link.op ≡ Sub → ProductIs values link.operand value → TermsGive values (wrap Long (sum -ℤ value)) links whole → TermsGive values sum (link ∷ links) whole
+  plus : {sum value whole : ℤ} {link : Link} {links : List Link} → link.op ≡ Add → ProductIs values link.operand value
+      → TermsGive values (wrap Long (sum +ℤ value)) links whole → TermsGive values sum (link ∷ links) whole
+  minus : {sum value whole : ℤ} {link : Link} {links : List Link} → link.op ≡ Sub
+      → ProductIs values link.operand value → TermsGive values (wrap Long (sum -ℤ value)) links whole
+      → TermsGive values sum (link ∷ links) whole
 
 -- product (('+' | '-') product)*
 pub data SumIs (values : Values) (e : Expr) (value : ℤ) : Type 0 where
   product : ProductIs values e value → SumIs values e value
-  chain : (first : Expr) (link : Link) (links : List Link) (begun : ℤ) → e.form ≡ form.Chain first (link ∷ links) → ProductIs values first begun → TermsGive values begun (link ∷ links) value → SumIs values e value
+  chain : (first : Expr) (link : Link) (links : List Link) (begun : ℤ) → e.form ≡ form.Chain first (link ∷ links)
+      → ProductIs values first begun → TermsGive values begun (link ∷ links) value → SumIs values e value
 
 -- Statements
 
 -- `long`
 pub record IsLong (typing : Typing) : Type 0 where
-  pub plain : typing.is_const ≡ false
+  pub plain : IsFalse typing.is_const
   pub long : typing.base ≡ base.C Long
   pub no_view : typing.axes ≡ []
 
@@ -105,19 +114,27 @@ pub record Calls (name : List ℕ) (s : Stmt) (arguments : List Argument) : Type
 -- what a statement does: the values after it, and what it prints
 pub data Does (values : Values) (s : Stmt) (after : Values) (printed : List ℕ) : Type 0 where
   -- cdef long name
-  declares : (declarator : Declarator) → DeclaresOne values s declarator → declarator.value ≡ None → Sets values declarator.name (pos 0) after → printed ≡ [] → Does values s after printed
+  declares : (declarator : Declarator) → DeclaresOne values s declarator → declarator.value ≡ None
+      → Assigns values declarator.name (pos 0) after → printed ≡ [] → Does values s after printed
   -- cdef long name = sum
-  begins : (declarator : Declarator) (e : Expr) (value : ℤ) → DeclaresOne values s declarator → declarator.value ≡ Some e → SumIs values e value → Sets values declarator.name value after → printed ≡ [] → Does values s after printed
-  -- name = sum
-  assigns : (target e : Expr) (name : List ℕ) (old value : ℤ) → s.form ≡ stmt_form.Assign (target ∷ []) e → target.form ≡ form.Name name → values name ≡ Some old → SumIs values e value → Sets values name value after → printed ≡ []
+  begins : (declarator : Declarator) (e : Expr) (value : ℤ) → DeclaresOne values s declarator
+      → declarator.value ≡ Some e → SumIs values e value → Assigns values declarator.name value after → printed ≡ []
       → Does values s after printed
+  -- name = sum
+  assigns : (target e : Expr) (name : List ℕ) (old value : ℤ) → s.form ≡ stmt_form.Assign (target ∷ []) e
+      → target.form ≡ form.Name name → values name ≡ Some old → SumIs values e value → Assigns values name value after
+      → printed ≡ [] → Does values s after printed
   -- print(sum): a decimal number and a line end
-  prints : (argument : Argument) (value : ℤ) → Calls (codes "print") s (argument ∷ []) → argument.name ≡ None → SumIs values argument.value value → after ≡ values → printed ≡ signed_decimal value ++ 10 ∷ [] → Does values s after printed
+  prints : (argument : Argument) (value : ℤ) → Calls (codes "print") s (argument ∷ []) → argument.name ≡ None
+      → SumIs values argument.value value → after ≡ values → printed ≡ with_line_end (signed_decimal value)
+      → Does values s after printed
 
 -- what statements do one after another
 pub data DoInTurn : Values → List Stmt → Values → List ℕ → Type 0 where
   none : {values : Values} → DoInTurn values [] values []
-  more : {values between after : Values} {s : Stmt} {others : List Stmt} {printed rest whole : List ℕ} → Does values s between printed → DoInTurn between others after rest → whole ≡ printed ++ rest → DoInTurn values (s ∷ others) after whole
+  more : {values between after : Values} {s : Stmt} {others : List Stmt} {printed rest whole : List ℕ}
+      → Does values s between printed → DoInTurn between others after rest → whole ≡ printed ++ rest
+      → DoInTurn values (s ∷ others) after whole
 
 -- Modules
 
@@ -125,7 +142,7 @@ pub data DoInTurn : Values → List Stmt → Values → List ℕ → Type 0 wher
 pub record IsMain (function : Function) : Type 0 where
   pub undecorated : function.decorators ≡ []
   pub plain : function.kind ≡ Def
-  pub outside : function.is_inline ≡ false
+  pub outside : IsFalse function.is_inline
   pub untyped : function.gives ≡ result_type.Unwritten
   pub named : function.name ≡ codes "main"
   pub alone : function.params ≡ []

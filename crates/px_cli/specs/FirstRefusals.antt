@@ -1,5 +1,5 @@
--- Where a module that `run` doesn't take is refused: at the first import, function, declaration or statement with which it isn't of the
--- form that is built, or at its first token where what stands there is of that form and something is missing.
+-- Where a module that `run` doesn't take is refused: at the first import, function, declaration or statement with which it
+-- isn't of the form that is built, or at its first token where what stands there is of that form and something is missing.
 use Rattle.std.specs.Prelude.{◌≡◌, ℕ, List, [], ◌∷◌}
 use Rattle.px_base.specs.declared.refusals.Span.{Span}
 use Rattle.px_base.specs.declared.refusals.Refusal.{Refusal}
@@ -18,8 +18,11 @@ place_of (module_item.Statement found) = found.at
 
 -- the first of these statements that does nothing of what is built stands there
 pub data StopsAt : Values → List Stmt → Span → Type 0 where
-  here : {values : Values} {s : Stmt} {others : List Stmt} {at : Span} → ((after : Values) (printed : List ℕ) → Does values s after printed → ⊥) → at ≡ s.at → StopsAt values (s ∷ others) at
-  later : {values between : Values} {s : Stmt} {others : List Stmt} {printed : List ℕ} {at : Span} → Does values s between printed → StopsAt between others at → StopsAt values (s ∷ others) at
+  here : {values : Values} {s : Stmt} {others : List Stmt} {at : Span}
+      → ((after : Values) (printed : List ℕ) → Does values s after printed → ⊥) → at ≡ s.at
+      → StopsAt values (s ∷ others) at
+  later : {values between : Values} {s : Stmt} {others : List Stmt} {printed : List ℕ} {at : Span}
+      → Does values s between printed → StopsAt between others at → StopsAt values (s ∷ others) at
 
 -- the head of the function `main`
 abbrev pub IsMainItem : ModuleItem → Type 0
@@ -43,19 +46,26 @@ pub record BeginsWithMain (items : List ModuleItem) (others : List ModuleItem) :
 -- the module is refused there
 pub data IsUnbuiltAt (m : Module) (at : Span) : Type 0 where
   -- no function `main` comes first
-  other_first : (item : ModuleItem) (others : List ModuleItem) → m.items ≡ item ∷ others → (IsMainItem item → ⊥) → at ≡ place_of item → IsUnbuiltAt m at
-  in_main : (main : Function) (others : List ModuleItem) → m.items ≡ module_item.Function main ∷ others → IsMain main → StopsAt no_values main.body at → IsUnbuiltAt m at
+  other_first : (item : ModuleItem) (others : List ModuleItem) → m.items ≡ item ∷ others → (IsMainItem item → ⊥)
+      → at ≡ place_of item → IsUnbuiltAt m at
+  in_main : (main : Function) (others : List ModuleItem) → m.items ≡ module_item.Function main ∷ others → IsMain main
+      → StopsAt no_values main.body at → IsUnbuiltAt m at
   -- not its call comes next
-  other_next : (item : ModuleItem) (others : List ModuleItem) → BeginsWithMain m.items (item ∷ others) → (IsCallItem item → ⊥) → at ≡ place_of item → IsUnbuiltAt m at
+  other_next : (item : ModuleItem) (others : List ModuleItem) → BeginsWithMain m.items (item ∷ others)
+      → (IsCallItem item → ⊥) → at ≡ place_of item → IsUnbuiltAt m at
   -- and something comes behind that
-  further : (call item : ModuleItem) (others : List ModuleItem) → BeginsWithMain m.items (call ∷ item ∷ others) → IsCallItem call → at ≡ place_of item → IsUnbuiltAt m at
+  further : (call item : ModuleItem) (others : List ModuleItem) → BeginsWithMain m.items (call ∷ item ∷ others)
+      → IsCallItem call → at ≡ place_of item → IsUnbuiltAt m at
   -- the function is missing, or its call
   empty : m.items ≡ [] → at ≡ m.at → IsUnbuiltAt m at
   uncalled : BeginsWithMain m.items [] → at ≡ m.at → IsUnbuiltAt m at
 
 -- E27 there
-abbrev pub not_built : Span → Refusal
-not_built at = record { number = 27; line = at.line; column = at.column }
+abbrev pub unbuilt_refusal : Span → Refusal
+unbuilt_refusal at = record { number = 27; line = at.line; column = at.column }
 
-abbrev pub IsUnbuilt : Module → Refusal → Type 0
-IsUnbuilt m refusal = (at : Span) × IsUnbuiltAt m at × (refusal ≡ not_built at)
+-- the module is refused so
+pub record IsUnbuilt (m : Module) (refusal : Refusal) : Type 0 where
+  pub at : Span
+  pub stands : IsUnbuiltAt m at
+  pub given : refusal ≡ unbuilt_refusal at

@@ -1,8 +1,9 @@
 pub mod Answer
 pub mod FirstMeaning
 pub mod FirstRefusals
-pub mod Held
+pub mod KeptValues
 pub mod Laws
+pub mod LineEnds
 pub mod ModuleAnswer
 pub mod Phases
 pub mod Words

@@ -5,10 +5,13 @@ use Rattle.px_base.specs.declared.statuses.Status.TheVariants.{Done, Refused, To
 use Rattle.px_base.specs.declared.refusals.Refusal.{Refusal}
 use Rattle.px_base.specs.Lines.{refusal_text}
 use Rattle.px_cli.specs.Phases.{IsRun, IsTextRefused}
-use Rattle.px_cli.specs.Answer.{module_limit, too_large_line, with_line_end}
+use Rattle.px_cli.specs.Answer.{module_limit, too_large_line}
+use Rattle.px_cli.specs.LineEnds.{with_line_end}
 
 abbrev pub IsModuleAnswer : List ℕ → List ℕ → Status → List ℕ → List ℕ → Type 0
 IsModuleAnswer file text Done out err = IsRun text out × (err ≡ []) × (length text ≤ module_limit)
-IsModuleAnswer file text Refused out err = (refusal : Refusal) × IsTextRefused text refusal × (out ≡ []) × (err ≡ with_line_end (refusal_text file refusal)) × (length text ≤ module_limit)
+IsModuleAnswer file text Refused out err =
+    (refusal : Refusal) × IsTextRefused text refusal × (out ≡ []) × (err ≡ with_line_end (refusal_text file refusal))
+    × (length text ≤ module_limit)
 IsModuleAnswer file text TooLarge out err = (module_limit < length text) × (out ≡ []) × (err ≡ too_large_line)
 IsModuleAnswer file text other out err = ⊥

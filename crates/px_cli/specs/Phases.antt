@@ -1,5 +1,5 @@
--- What the phases make of a text, one after the other: its tokens, its module, and what that prints; or the refusal of the first phase
--- whose rules it breaks.
+-- What the phases make of a text, one after the other: its tokens, its module, and what that prints; or the refusal of the
+-- first phase whose rules it breaks.
 use Rattle.std.specs.Prelude.{◌≡◌, ℕ, List, Some}
 use Rattle.px_base.specs.declared.refusals.Refusal.{Refusal}
 use Rattle.px_base.specs.Findings.{IsFirst}
@@ -7,7 +7,7 @@ use Rattle.px_lexer.specs.declared.token_list.Tokens.{Tokens}
 use Rattle.px_lexer.specs.Tokens.{IsTokens}
 use Rattle.px_lexer.specs.Refusals.{BreaksText}
 use Rattle.px_tree.specs.declared.modules.Module.{Module}
-use Rattle.px_exprs.specs.Inputs.{terminals_of}
+use Rattle.px_lexer.specs.Terminals.{terminals_of}
 use Rattle.px_parser.specs.Parsing.{IsModuleOf, IsModuleRefused}
 use Rattle.px_cli.specs.FirstMeaning.{Prints}
 use Rattle.px_cli.specs.FirstRefusals.{IsUnbuilt}
@@ -34,6 +34,7 @@ pub data IsTextRefused (text : List ℕ) (refusal : Refusal) : Type 0 where
   -- E1 to E9 without E5 and E6: by the lexer
   no_tokens : IsFirst (BreaksText text) (Some refusal) → IsTextRefused text refusal
   -- E27 at the first foreign word; E5 or E6 of the grammar
-  no_module : (tokens : Tokens) → AreTokensOf text tokens → IsModuleRefused (terminals_of tokens) refusal → IsTextRefused text refusal
+  no_module : (tokens : Tokens) → AreTokensOf text tokens → IsModuleRefused (terminals_of tokens) refusal
+      → IsTextRefused text refusal
   -- E27 at what isn't built
   not_built : (m : Module) → IsModuleText text m → IsUnbuilt m refusal → IsTextRefused text refusal

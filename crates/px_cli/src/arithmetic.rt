@@ -43,7 +43,7 @@ fn product_of(a: i128, b: i128) -> i128
 }
 
 /// The product, where the operator is `*`.
-pub(crate) fn scaled(op: BinOp, a: i128, b: i128) -> Option<i128>
+pub(crate) fn product_by(op: BinOp, a: i128, b: i128) -> Option<i128>
     requires left { IsInRange Long a }
     requires right { IsInRange Long b }
     ensures { MatchOption result (op ≢ Mul) (λ product. (op ≡ Mul) × (product ≡ wrap Long (a *ℤ b))) }

@@ -14,6 +14,3 @@ mod writing;
 
 pub use laws::answers_are_unique;
 pub use top_call::{Report, cython_main, tell_no_memory};
-
-#[cfg(test)]
-mod tests;

@@ -1,6 +1,7 @@
-ghost use Rattle.std.specs.Prelude.{◌≡◌, ◌++◌, ◌∷◌, [], ℕ, List, IfOk, map, string_bytes};
+ghost use Rattle.std.specs.Prelude.{◌≡◌, [], ℕ, List, IfOk, map, string_bytes};
 ghost use Rattle.px_base.specs.Lines.{refusal_text};
-ghost use Rattle.px_cli.specs.Answer.{IsAnswer, facts_of, no_file_line, with_line_end};
+ghost use Rattle.px_cli.specs.Answer.{IsAnswer, facts_of, no_file_line};
+ghost use Rattle.px_cli.specs.LineEnds.{with_line_end};
 ghost use Rattle.px_cli.specs.ModuleAnswer.{IsModuleAnswer};
 ghost use Rattle.px_base.specs.Troubles.{IfRefused};
 ghost use Rattle.px_cli.specs.Phases.{IsRun, IsTextRefused};
@@ -39,7 +40,8 @@ pub fn reply_to<L: Library>(
     library: &mut L,
 ) -> Result<Reply, NoMemory>
     ensures { IfOk result (λ reply. IsAnswer
-        (facts_of (map string_bytes words.now) (L.holds library.old) (L.faults library.old) (L.faults library.new)) reply.status reply.output reply.line) }
+        (facts_of (map string_bytes words.now) (L.holds library.old) (L.faults library.old) (L.faults library.new))
+        reply.status reply.output reply.line) }
 {
     match file_to_run(words) {
         Some(file) => reply_for_file(alloc, file, library),
@@ -49,7 +51,8 @@ pub fn reply_to<L: Library>(
 
 fn reply_for_file<L: Library>(alloc: Global, file: &str, library: &mut L) -> Result<Reply, NoMemory>
     ensures { IfOk result (λ reply. (words : List (List ℕ)) → RunsFile words file.now → IsAnswer
-        (facts_of words (L.holds library.old) (L.faults library.old) (L.faults library.new)) reply.status reply.output reply.line) }
+        (facts_of words (L.holds library.old) (L.faults library.old) (L.faults library.new))
+        reply.status reply.output reply.line) }
 {
     match library.module(alloc, file) {
         Ok(Some(text)) => reply_for_module(alloc, file, text.as_slice()),
@@ -79,7 +82,8 @@ fn reply_for_module(alloc: Global, file: &str, text: &[u8]) -> Result<Reply, NoM
 /// What the module with this text prints.
 ///
 /// # Errors
-/// The refusal of the first phase whose rules the text breaks; `NoMemory` where there is no memory for a phase or the output.
+/// The refusal of the first phase whose rules the text breaks; `NoMemory` where there is no memory for a phase or the
+/// output.
 fn output_of(alloc: Global, text: &[u8]) -> Result<Bytes, Trouble>
     ensures done { IfOk result (IsRun text.now) }
     ensures refused { IfRefused result (IsTextRefused text.now) }
@@ -90,7 +94,11 @@ fn output_of(alloc: Global, text: &[u8]) -> Result<Bytes, Trouble>
 }
 
 fn reply_of_refusal(alloc: Global, file: &str, refusal: &Refusal) -> Result<Reply, NoMemory>
-    ensures { IfOk result (λ reply. reply ≡ record { status = Status.Refused; output = []; line = with_line_end (refusal_text file.now refusal.now) }) }
+    ensures { IfOk result (λ reply. reply ≡ record {
+      status = Status.Refused;
+      output = [];
+      line = with_line_end (refusal_text file.now refusal.now);
+    }) }
 {
     let text = refusal_line(alloc, file, refusal)?;
     let mut line = utf8(alloc, &text)?;

@@ -1,12 +1,12 @@
 //! Runs a module of the form that is built, and refuses every other one.
 
-ghost use Rattle.std.specs.Prelude.{◌≡◌, MatchBool, IfOk};
+ghost use Rattle.std.specs.Prelude.{◌≡◌, ◌↔◌, IsTrue, IfOk};
 ghost use Rattle.px_base.specs.declared.refusals.Span.{Span};
 ghost use Rattle.px_base.specs.Troubles.{IfRefused};
-ghost use Rattle.px_cli.specs.FirstRefusals.{IsCallItem, IsUnbuilt, StopsAt, not_built, place_of};
+ghost use Rattle.px_cli.specs.FirstRefusals.{IsCallItem, IsUnbuilt, StopsAt, unbuilt_refusal, place_of};
 ghost use Rattle.px_cli.specs.FirstMeaning.{DoInTurn, IsMain, Prints, Values, no_values};
 
-use crate::statements::{MAIN, arguments_of, refused, run_statement};
+use crate::statements::{MAIN, arguments_of, run_statement, unbuilt_at};
 use crate::variables::Variables;
 use px_base::{Bytes, Span, Trouble};
 use px_tree::{
@@ -17,7 +17,7 @@ use std::alloc::Global;
 
 /// Whether it is `def main():`, with nothing else in its head.
 fn is_main(function: &Function) -> bool
-    ensures { MatchBool result (IsMain function.now) (IsMain function.now → ⊥) }
+    ensures { IsTrue result ↔ IsMain function.now }
 {
     function.decorators.is_empty()
         && function.kind == FunctionKind::Def
@@ -31,7 +31,7 @@ fn is_main(function: &Function) -> bool
 
 /// Whether it is `main()`.
 fn is_call(item: &ModuleItem) -> bool
-    ensures { MatchBool result (IsCallItem item.now) (IsCallItem item.now → ⊥) }
+    ensures { IsTrue result ↔ IsCallItem item.now }
 {
     let ModuleItem::Statement(statement) = item else {
         return false;
@@ -59,7 +59,8 @@ fn place(item: &ModuleItem) -> Span
 /// Runs the body of `main`, and gives what it prints.
 fn run_body(alloc: Global, body: &[Stmt]) -> Result<Bytes, Trouble>
     ensures done { IfOk result (λ output. (after : Values) × DoInTurn no_values body.now after output) }
-    ensures refused { IfRefused result (λ refusal. (at : Span) × StopsAt no_values body.now at × (refusal ≡ not_built at)) }
+    ensures refused { IfRefused result (λ refusal.
+        (at : Span) × StopsAt no_values body.now at × (refusal ≡ unbuilt_refusal at)) }
 {
     let mut variables = Variables::new(alloc);
     let mut output = Bytes::new(alloc);
@@ -72,32 +73,32 @@ fn run_body(alloc: Global, body: &[Stmt]) -> Result<Bytes, Trouble>
 /// Runs a module, and gives what it prints.
 ///
 /// # Errors
-/// E27 at the first import, function, declaration or statement with which the module isn't of the form that is built, or at its first
-/// token where something is missing; `NoMemory` where there is no memory for its variables or the output.
+/// E27 at the first import, function, declaration or statement with which the module isn't of the form that is built, or
+/// at its first token where something is missing; `NoMemory` where there is no memory for its variables or the output.
 pub(crate) fn run_module(alloc: Global, tree: &Module) -> Result<Bytes, Trouble>
     ensures done { IfOk result (Prints tree.now) }
     ensures refused { IfRefused result (IsUnbuilt tree.now) }
 {
     let items = tree.items.as_slice();
     let Some(first) = at(items, 0) else {
-        return Err(refused(tree.at));
+        return Err(unbuilt_at(tree.at));
     };
     let ModuleItem::Function(main) = first else {
-        return Err(refused(place(first)));
+        return Err(unbuilt_at(place(first)));
     };
     let main = main.get();
     if !is_main(main) {
-        return Err(refused(main.at));
+        return Err(unbuilt_at(main.at));
     }
     let output = run_body(alloc, main.body.as_slice())?;
     let Some(next) = at(items, 1) else {
-        return Err(refused(tree.at));
+        return Err(unbuilt_at(tree.at));
     };
     if !is_call(next) {
-        return Err(refused(place(next)));
+        return Err(unbuilt_at(place(next)));
     }
     if let Some(further) = at(items, 2) {
-        return Err(refused(place(further)));
+        return Err(unbuilt_at(place(further)));
     }
     Ok(output)
 }

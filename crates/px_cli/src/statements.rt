@@ -1,6 +1,6 @@
 //! What a statement of the form that is built does.
 
-ghost use Rattle.std.specs.Prelude.{◌≡◌, ◌≢◌, [], ◌∷◌, ◌++◌, ℕ, ℤ, List, None, OnOk, IfSome, MatchBool, MatchOption, Contains, codes, map};
+ghost use Rattle.std.specs.Prelude.{◌≡◌, ◌≢◌, ◌↔◌, [], ◌∷◌, ◌++◌, ℕ, ℤ, List, None, OnOk, IfSome, IsTrue, MatchOption, Contains, codes, map};
 ghost use Rattle.std.specs.Fmt.{signed_decimal};
 ghost use Rattle.px_base.specs.declared.refusals.Trouble.TheVariants.{Refused};
 ghost use Rattle.px_base.specs.declared.c_types.CType.TheVariants.{Long};
@@ -10,9 +10,10 @@ ghost use Rattle.px_tree.specs.declared.expressions.Argument.{Argument};
 ghost use Rattle.px_tree.specs.declared.expressions.ExprForm.TheVariants as form;
 ghost use Rattle.px_tree.specs.declared.statements.Declarator.{Declarator};
 ghost use Rattle.px_tree.specs.declared.statements.StmtForm.TheVariants as stmt_form;
-ghost use Rattle.px_cli.specs.FirstRefusals.{not_built};
+ghost use Rattle.px_cli.specs.FirstRefusals.{unbuilt_refusal};
 ghost use Rattle.px_cli.specs.FirstMeaning.{DeclaresOne, Does, IsCall, IsLong, Values, reserved_names};
-ghost use Rattle.px_cli.specs.Held.{AreLongs, BeginsAs, IsTried, held};
+ghost use Rattle.px_cli.specs.LineEnds.{with_line_end};
+ghost use Rattle.px_cli.specs.KeptValues.{AreLongs, BeginsAs, IsTried, values_of};
 
 use crate::expressions::value_of_sum;
 use crate::variables::Variables;
@@ -45,35 +46,35 @@ const RESERVED: [&[char]; 14] = [
 
 /// Whether a name is one of these.
 fn is_one_of(names: &[&[char]], name: &[char]) -> bool
-    ensures { MatchBool result (Contains (map (λ found. found.now) names.now) name.now) (Contains (map (λ found. found.now) names.now) name.now → ⊥) }
+    ensures { IsTrue result ↔ Contains (map (λ found. found.now) names.now) name.now }
 {
     names.contains(&name)
 }
 
 /// Whether no variable may have the name.
 fn is_reserved(name: &[char]) -> bool
-    ensures { MatchBool result (Contains reserved_names name.now) (Contains reserved_names name.now → ⊥) }
+    ensures { IsTrue result ↔ Contains reserved_names name.now }
 {
     is_one_of(&RESERVED, name)
 }
 
 /// Whether it is the type `long`.
 fn is_long(typing: &Type) -> bool
-    ensures { MatchBool result (IsLong typing.now) (IsLong typing.now → ⊥) }
+    ensures { IsTrue result ↔ IsLong typing.now }
 {
     !typing.is_const && typing.base == BaseType::C(CType::Long) && typing.axes.is_empty()
 }
 
 /// The variable that a declaration declares, where it is one of type `long` that isn't declared yet.
-fn declared<'a>(
+fn declarator_of<'a>(
     variables: &Variables<'_>,
     statement: &Stmt,
     declaration: &'a Declaration,
 ) -> Option<&'a Declarator>
     requires { statement.now.form ≡ stmt_form.Declare declaration.now }
     ensures { MatchOption result
-        ((declarator : Declarator) → DeclaresOne (held variables.now) statement.now declarator → ⊥)
-        (λ declarator. DeclaresOne (held variables.now) statement.now declarator.now) }
+        ((declarator : Declarator) → DeclaresOne (values_of variables.now) statement.now declarator → ⊥)
+        (λ declarator. DeclaresOne (values_of variables.now) statement.now declarator.now) }
 {
     if !is_long(&declaration.typing) {
         return None;
@@ -101,7 +102,7 @@ fn only<T>(items: &[T]) -> Option<&T>
 
 /// Whether it is this name.
 fn is_named(expr: &Expr, name: &[char]) -> bool
-    ensures { MatchBool result (expr.now.form ≡ form.Name name.now) (expr.now.form ≡ form.Name name.now → ⊥) }
+    ensures { IsTrue result ↔ (expr.now.form ≡ form.Name name.now) }
 {
     match &expr.form {
         ExprForm::Name(found) => found.as_slice() == name,
@@ -129,9 +130,11 @@ pub(crate) fn arguments_of<'a>(name: &[char], call: &'a Expr) -> Option<&'a [Arg
 }
 
 /// The value that a declared variable begins with.
-fn begun(variables: &Variables<'_>, declarator: &Declarator) -> Option<i128>
-    requires { AreLongs (held variables.now) }
-    ensures value { MatchOption result ((value : ℤ) → BeginsAs (held variables.now) declarator.now value → ⊥) (BeginsAs (held variables.now) declarator.now) }
+fn first_value(variables: &Variables<'_>, declarator: &Declarator) -> Option<i128>
+    requires { AreLongs (values_of variables.now) }
+    ensures value { MatchOption result
+        ((value : ℤ) → BeginsAs (values_of variables.now) declarator.now value → ⊥)
+        (BeginsAs (values_of variables.now) declarator.now) }
     ensures long { IfSome result (IsInRange Long) }
 {
     match &declarator.value {
@@ -147,14 +150,15 @@ fn declare<'a>(
     declaration: &'a Declaration,
 ) -> Result<bool, NoMemory>
     requires stands { statement.now.form ≡ stmt_form.Declare declaration.now }
-    requires longs { AreLongs (held variables.old) }
-    ensures tried { (output : List ℕ) → IsTried (held variables.old) statement.now (held variables.new) output output result }
-    ensures longs { OnOk result (AreLongs (held variables.new)) }
+    requires longs { AreLongs (values_of variables.old) }
+    ensures tried { (output : List ℕ) →
+        IsTried (values_of variables.old) statement.now (values_of variables.new) output output result }
+    ensures longs { OnOk result (AreLongs (values_of variables.new)) }
 {
-    let Some(declarator) = declared(variables, statement, declaration) else {
+    let Some(declarator) = declarator_of(variables, statement, declaration) else {
         return Ok(false);
     };
-    let Some(value) = begun(variables, declarator) else {
+    let Some(value) = first_value(variables, declarator) else {
         return Ok(false);
     };
     variables.set(declarator.name.as_slice(), value)?;
@@ -170,9 +174,10 @@ fn assign<'a>(
 ) -> Result<bool, NoMemory>
     requires stands { statement.now.form ≡ stmt_form.Assign targets.now given.now }
     requires some { targets.now ≢ [] }
-    requires longs { AreLongs (held variables.old) }
-    ensures tried { (output : List ℕ) → IsTried (held variables.old) statement.now (held variables.new) output output result }
-    ensures longs { OnOk result (AreLongs (held variables.new)) }
+    requires longs { AreLongs (values_of variables.old) }
+    ensures tried { (output : List ℕ) →
+        IsTried (values_of variables.old) statement.now (values_of variables.new) output output result }
+    ensures longs { OnOk result (AreLongs (values_of variables.new)) }
 {
     let Some(target) = only(targets) else {
         return Ok(false);
@@ -192,7 +197,7 @@ fn assign<'a>(
 
 /// A decimal number and a line end, behind the output.
 fn print_number(output: &mut Bytes, value: i128) -> Result<(), NoMemory>
-    ensures { OnOk result (output.new ≡ output.old ++ (signed_decimal value ++ 10 ∷ [])) }
+    ensures { OnOk result (output.new ≡ output.old ++ with_line_end (signed_decimal value)) }
 {
     let mut buffer = Buffer::new();
     output.extend_from_slice(buffer.format(value).as_bytes())?;
@@ -201,7 +206,7 @@ fn print_number(output: &mut Bytes, value: i128) -> Result<(), NoMemory>
 }
 
 /// The argument of a call of `print`, where it has one without a name.
-fn printed(call: &Expr) -> Option<&Argument>
+fn print_argument(call: &Expr) -> Option<&Argument>
     ensures { MatchOption result
         ((argument : Argument) → IsCall (codes "print") call.now (argument ∷ []) → argument.name ≡ None → ⊥)
         (λ argument. IsCall (codes "print") call.now (argument.now ∷ []) × (argument.now.name ≡ None)) }
@@ -227,10 +232,10 @@ fn print(
     output: &mut Bytes,
 ) -> Result<bool, NoMemory>
     requires stands { statement.now.form ≡ stmt_form.Assign [] call.now }
-    requires longs { AreLongs (held variables.now) }
-    ensures { IsTried (held variables.now) statement.now (held variables.now) output.old output.new result }
+    requires longs { AreLongs (values_of variables.now) }
+    ensures { IsTried (values_of variables.now) statement.now (values_of variables.now) output.old output.new result }
 {
-    let Some(argument) = printed(call) else {
+    let Some(argument) = print_argument(call) else {
         return Ok(false);
     };
     let Some(value) = value_of_sum(variables, &argument.value) else {
@@ -246,9 +251,9 @@ fn try_statement<'a>(
     statement: &'a Stmt,
     output: &mut Bytes,
 ) -> Result<bool, NoMemory>
-    requires { AreLongs (held variables.old) }
-    ensures tried { IsTried (held variables.old) statement.now (held variables.new) output.old output.new result }
-    ensures longs { OnOk result (AreLongs (held variables.new)) }
+    requires { AreLongs (values_of variables.old) }
+    ensures tried { IsTried (values_of variables.old) statement.now (values_of variables.new) output.old output.new result }
+    ensures longs { OnOk result (AreLongs (values_of variables.new)) }
 {
     match &statement.form {
         StmtForm::Declare(declaration) => declare(variables, statement, declaration),
@@ -264,8 +269,8 @@ fn try_statement<'a>(
 }
 
 /// The refusal of what isn't built.
-pub(crate) fn refused(at: Span) -> Trouble
-    ensures { result ≡ Refused (not_built at) }
+pub(crate) fn unbuilt_at(at: Span) -> Trouble
+    ensures { result ≡ Refused (unbuilt_refusal at) }
 {
     Trouble::Refused(Refusal {
         number: 27,
@@ -277,20 +282,25 @@ pub(crate) fn refused(at: Span) -> Trouble
 /// Does a statement.
 ///
 /// # Errors
-/// E27 at its first token where it isn't of the form that is built; `NoMemory` where there is no memory for a variable or the output.
+/// E27 at its first token where it isn't of the form that is built; `NoMemory` where there is no memory for a variable or
+/// the output.
 pub(crate) fn run_statement<'a>(
     variables: &mut Variables<'a>,
     statement: &'a Stmt,
     output: &mut Bytes,
 ) -> Result<(), Trouble>
-    requires { AreLongs (held variables.old) }
-    ensures done { OnOk result ((printed : List ℕ) × Does (held variables.old) statement.now (held variables.new) printed × (output.new ≡ output.old ++ printed)) }
-    ensures refused { IfRefused result (λ refusal. ((after : Values) (printed : List ℕ) → Does (held variables.old) statement.now after printed → ⊥) × (refusal ≡ not_built statement.now.at)) }
-    ensures longs { OnOk result (AreLongs (held variables.new)) }
+    requires { AreLongs (values_of variables.old) }
+    ensures done { OnOk result ((printed : List ℕ) ×
+        Does (values_of variables.old) statement.now (values_of variables.new) printed ×
+        (output.new ≡ output.old ++ printed)) }
+    ensures refused { IfRefused result (λ refusal.
+        ((after : Values) (printed : List ℕ) → Does (values_of variables.old) statement.now after printed → ⊥) ×
+        (refusal ≡ unbuilt_refusal statement.now.at)) }
+    ensures longs { OnOk result (AreLongs (values_of variables.new)) }
 {
     if try_statement(variables, statement, output)? {
         Ok(())
     } else {
-        Err(refused(statement.at))
+        Err(unbuilt_at(statement.at))
     }
 }

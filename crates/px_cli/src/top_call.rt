@@ -1,6 +1,6 @@
 ghost use Rattle.std.specs.Prelude.{◌≡◌, map, string_bytes};
 ghost use Rattle.px_base.specs.Outside.{Grows};
-ghost use Rattle.px_cli.specs.Answer.{Facts, IsAnswer, IsCalm, IsReport, Taking, TookAll, facts_of, no_memory_line, taking};
+ghost use Rattle.px_cli.specs.Answer.{Facts, IsAnswer, IsCalm, IsReport, Taking, TookAll, facts_of, no_memory_line, taking_of};
 
 use crate::replies::{Reply, reply_to};
 use crate::writing::{Wrote, write_whole};
@@ -30,8 +30,8 @@ pub fn cython_main<L: Library, I: Source, O: Sink, E: Sink, G: Gate>(
     ensures answer { IsReport
         (facts_of (map string_bytes words.now) (L.holds library.old) (L.faults library.old) (L.faults library.new))
         result.status
-        (taking (O.taken out.old) (O.taken out.new) (O.faults out.old) (O.faults out.new))
-        (taking (E.taken err.old) (E.taken err.new) (E.faults err.old) (E.faults err.new)) }
+        (taking_of (O.taken out.old) (O.taken out.new) (O.faults out.old) (O.faults out.new))
+        (taking_of (E.taken err.old) (E.taken err.new) (E.faults err.old) (E.faults err.new)) }
 {
     let status = match reply_to(alloc, words, library) {
         Ok(reply) => deliver(&reply, out, err),
@@ -43,8 +43,8 @@ pub fn cython_main<L: Library, I: Source, O: Sink, E: Sink, G: Gate>(
 /// Writes a reply, the output first; after a write that fails only the line of want of memory is tried.
 fn deliver<O: Sink, E: Sink>(reply: &Reply, out: &mut O, err: &mut E) -> Status
     ensures { (facts : Facts) → IsAnswer facts reply.now.status reply.now.output reply.now.line → IsReport facts result
-        (taking (O.taken out.old) (O.taken out.new) (O.faults out.old) (O.faults out.new))
-        (taking (E.taken err.old) (E.taken err.new) (E.faults err.old) (E.faults err.new)) }
+        (taking_of (O.taken out.old) (O.taken out.new) (O.faults out.old) (O.faults out.new))
+        (taking_of (E.taken err.old) (E.taken err.new) (E.faults err.old) (E.faults err.new)) }
 {
     match write_whole(out, reply.output.as_slice()) {
         Wrote::All => write_line(reply, err),
@@ -57,7 +57,7 @@ fn deliver<O: Sink, E: Sink>(reply: &Reply, out: &mut O, err: &mut E) -> Status
 fn write_line<E: Sink>(reply: &Reply, err: &mut E) -> Status
     ensures { (facts : Facts) (out : Taking) → IsAnswer facts reply.now.status reply.now.output reply.now.line →
         TookAll out reply.now.output → IsCalm out → IsReport facts result out
-        (taking (E.taken err.old) (E.taken err.new) (E.faults err.old) (E.faults err.new)) }
+        (taking_of (E.taken err.old) (E.taken err.new) (E.faults err.old) (E.faults err.new)) }
 {
     match write_whole(err, reply.line.as_slice()) {
         Wrote::All => reply.status,

@@ -1,8 +1,8 @@
 //! The variables of a run, by their names.
 
 ghost use Rattle.std.specs.Prelude.{◌≡◌, None, OnOk};
-ghost use Rattle.px_cli.specs.FirstMeaning.{Sets, no_values};
-ghost use Rattle.px_cli.specs.Held.{held};
+ghost use Rattle.px_cli.specs.FirstMeaning.{Assigns, no_values};
+ghost use Rattle.px_cli.specs.KeptValues.{values_of};
 
 use indexmap::IndexMap;
 use px_base::NoMemory;
@@ -16,7 +16,7 @@ pub struct Variables<'a> {
 
 impl<'a> Variables<'a> {
     pub(crate) fn new(alloc: Global) -> Variables<'a>
-        ensures { held result ≡ no_values }
+        ensures { values_of result ≡ no_values }
     {
         Variables {
             values: IndexMap::new(alloc),
@@ -25,7 +25,7 @@ impl<'a> Variables<'a> {
 
     /// The value of a variable, if it is declared.
     pub(crate) fn value(&self, name: &[char]) -> Option<i128>
-        ensures { result ≡ held self.now name.now }
+        ensures { result ≡ values_of self.now name.now }
     {
         self.values.get(name).copied()
     }
@@ -35,7 +35,7 @@ impl<'a> Variables<'a> {
     /// # Errors
     /// `NoMemory` where there is no memory for another variable.
     pub(crate) fn set(&mut self, name: &'a [char], value: i128) -> Result<(), NoMemory>
-        ensures { OnOk result (Sets (held self.old) name.now value (held self.new)) }
+        ensures { OnOk result (Assigns (values_of self.old) name.now value (values_of self.new)) }
     {
         self.values.insert(name, value)?;
         Ok(())

@@ -1,4 +1,4 @@
-ghost use Rattle.px_cli.specs.Answer.{taking};
+ghost use Rattle.px_cli.specs.Answer.{taking_of};
 ghost use Rattle.px_cli.specs.Writing.{IsWritten};
 
 use px_base::{Sink, SinkTrouble};
@@ -16,7 +16,8 @@ pub enum Wrote {
 
 /// Writes a text, in as many pieces as the sink takes it; after a write that fails nothing more is written.
 pub fn write_whole<K: Sink>(sink: &mut K, text: &[u8]) -> Wrote
-    ensures { IsWritten result text.now (taking (K.taken sink.old) (K.taken sink.new) (K.faults sink.old) (K.faults sink.new)) }
+    ensures { IsWritten result text.now
+        (taking_of (K.taken sink.old) (K.taken sink.new) (K.faults sink.old) (K.faults sink.new)) }
 {
     let mut at = 0;
     while at < text.len() {

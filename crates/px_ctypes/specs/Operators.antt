@@ -1,6 +1,6 @@
 -- The operators on values of one C integer type (ISO C11 6.5.3.3 and 6.5.5 to 6.5.12). Each result is that of whole numbers,
 -- wrapped, or a fault.
-use Rattle.std.specs.Prelude.{◌≡◌, ◌≢◌, ℕ, ◌-◌, ◌^◌, ℤ, pos, neg_ℤ, ◌+ℤ◌, ◌-ℤ◌, ◌*ℤ◌, ◌<ℤ◌, ◌≤ℤ◌, Bool, true, false, not, ◌&&◌, ◌==◌, if◌then◌else◌, int_lt, int_le, unsigned_abs, bit_and, bit_or, bit_xor, Result, Ok, Err}
+use Rattle.std.specs.Prelude.{◌≡◌, ◌≢◌, ℕ, ◌-◌, ◌^◌, ℤ, pos, neg_ℤ, ◌+ℤ◌, ◌-ℤ◌, ◌*ℤ◌, ◌<ℤ◌, ◌≤ℤ◌, Bool, true, false, IsFalse, not, ◌&&◌, ◌==◌, if◌then◌else◌, int_lt, int_le, unsigned_abs, bit_and, bit_or, bit_xor, Result, Ok, Err}
 use Rattle.std.specs.Int.{int_rem_euclid}
 use Rattle.px_base.specs.declared.c_types.CType.{CType}
 use Rattle.px_base.specs.declared.c_types.BinOp.{BinOp}
@@ -69,7 +69,7 @@ is_shift BitXor = false
 
 -- what may stand on the right of an operator: a value of the type, and any number as the count of a shift
 abbrev pub IsOperand : BinOp → CType → ℤ → Type 0
-IsOperand op t b = is_shift op ≡ false → IsInRange t b
+IsOperand op t b = IsFalse (is_shift op) → IsInRange t b
 
 -- the result of an operator on values of the type, or its fault
 abbrev pub binary_value : BinOp → CType → ℤ → ℤ → Bool → Result ℤ Fault

@@ -1,4 +1,4 @@
-ghost use Rattle.std.specs.Prelude.{◌≡◌, ◌≢◌, true, false, IfOk};
+ghost use Rattle.std.specs.Prelude.{◌≡◌, ◌≢◌, IfOk, IsTrue, IsFalse};
 ghost use Rattle.px_base.specs.declared.c_types.CType.TheVariants.{Bint};
 ghost use Rattle.px_ctypes.specs.Conversions.{common, converted, mixed, object_value, promoted, unsigned_of};
 ghost use Rattle.px_ctypes.specs.Types.{IsInRange, IsValueOf, is_signed};
@@ -27,8 +27,8 @@ pub fn common(a: CType, b: CType) -> CType
 {
     let (left, right) = (promoted(a), promoted(b));
     match (is_signed(left), is_signed(right)) {
-        (true, false) => mixed(right, left),
-        (false, true) => mixed(left, right),
+        (true, false) => common_of_mixed(right, left),
+        (false, true) => common_of_mixed(left, right),
         _ => {
             if rank(left) < rank(right) {
                 right
@@ -40,9 +40,9 @@ pub fn common(a: CType, b: CType) -> CType
 }
 
 /// The common type of an unsigned and a signed type.
-fn mixed(unsigned: CType, signed: CType) -> CType
-    requires unsigned { is_signed unsigned ≡ false }
-    requires signed { is_signed signed ≡ true }
+fn common_of_mixed(unsigned: CType, signed: CType) -> CType
+    requires unsigned { IsFalse (is_signed unsigned) }
+    requires signed { IsTrue (is_signed signed) }
     ensures { result ≡ mixed unsigned signed }
 {
     if rank(signed) <= rank(unsigned) {

@@ -11,7 +11,7 @@ fn magnitude(n: i128) -> u64
 }
 
 /// The number of this magnitude, below 0 where the flag is set.
-fn signed(magnitude: u64, negative: bool) -> i128
+fn with_sign(magnitude: u64, negative: bool) -> i128
     ensures { result ≡ signed_of magnitude negative }
 {
     if negative {
@@ -28,7 +28,7 @@ pub(crate) fn truncated_quotient(a: i128, b: i128) -> i128
     requires right { unsigned_abs b < 2 ^ 64 }
     ensures { result ≡ trunc_div a b }
 {
-    signed(magnitude(a) / magnitude(b), (a < 0) != (b < 0))
+    with_sign(magnitude(a) / magnitude(b), (a < 0) != (b < 0))
 }
 
 /// What `truncated_quotient` leaves of `a`: it has the sign of `a`.
@@ -38,7 +38,7 @@ pub(crate) fn truncated_remainder(a: i128, b: i128) -> i128
     requires right { unsigned_abs b < 2 ^ 64 }
     ensures { result ≡ trunc_mod a b }
 {
-    signed(magnitude(a) % magnitude(b), a < 0)
+    with_sign(magnitude(a) % magnitude(b), a < 0)
 }
 
 /// `a / b`, rounded down.
@@ -65,8 +65,8 @@ pub(crate) fn floored_remainder(a: i128, b: i128) -> i128
 {
     let (left, right) = (magnitude(a), magnitude(b));
     if left == 0 || (a < 0) == (b < 0) {
-        signed(left % right, b < 0)
+        with_sign(left % right, b < 0)
     } else {
-        signed(right - 1 - (left - 1) % right, b < 0)
+        with_sign(right - 1 - (left - 1) % right, b < 0)
     }
 }

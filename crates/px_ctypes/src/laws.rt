@@ -1,6 +1,6 @@
 //! Laws of the arithmetic, each the contract of a function that does nothing.
 
-ghost use Rattle.std.specs.Prelude.{◌≡◌, ◌≢◌, ℕ, ◌-◌, ◌^◌, ◌<◌, ℤ, pos, negsuc, ◌+ℤ◌, ◌-ℤ◌, ◌*ℤ◌, ◌≤ℤ◌, ◌<ℤ◌, Bool, true, Ok, ◌↔◌, bit_and, bit_or, bit_xor};
+ghost use Rattle.std.specs.Prelude.{◌≡◌, ◌≢◌, ℕ, ◌-◌, ◌^◌, ◌<◌, ℤ, pos, negsuc, ◌+ℤ◌, ◌-ℤ◌, ◌*ℤ◌, ◌≤ℤ◌, ◌<ℤ◌, Bool, IsTrue, Ok, ◌↔◌, bit_and, bit_or, bit_xor};
 ghost use Rattle.px_base.specs.declared.c_types.BinOp.TheVariants.{FloorDiv, Mod};
 ghost use Rattle.px_base.specs.declared.c_types.CType.{CType};
 ghost use Rattle.px_base.specs.declared.c_types.UnOp.TheVariants.{Invert};
@@ -70,5 +70,5 @@ pub fn common_type_holds_operands()
     ensures promoted_least { (t : CType) → least (promoted t) ≤ℤ least t }
     ensures commutes { (a b : CType) → common a b ≡ common b a }
     ensures greatest { (a b : CType) → greatest (promoted a) ≤ℤ greatest (common a b) }
-    ensures least { (a b : CType) → is_signed (common a b) ≡ true → least (common a b) ≤ℤ least (promoted a) }
+    ensures least { (a b : CType) → IsTrue (is_signed (common a b)) → least (common a b) ≤ℤ least (promoted a) }
 {}

@@ -18,6 +18,3 @@ pub use laws::{
 pub use operators::{binary, compare, unary};
 pub use types::size_of;
 pub use wrapping::wrap;
-
-#[cfg(test)]
-mod tests;

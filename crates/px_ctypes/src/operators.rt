@@ -201,12 +201,12 @@ fn unary_result(op: UnOp, t: CType, a: i128) -> i128
 {
     match op {
         UnOp::Plus => wrap(t, a),
-        UnOp::Minus => negated(t, a),
-        UnOp::Invert => inverted(t, a),
+        UnOp::Minus => negation(t, a),
+        UnOp::Invert => inversion(t, a),
     }
 }
 
-fn negated(t: CType, a: i128) -> i128
+fn negation(t: CType, a: i128) -> i128
     requires arithmetic { t ≢ Bint }
     requires operand { IsInRange t a }
     ensures { result ≡ wrap t (neg_ℤ a) }
@@ -214,7 +214,7 @@ fn negated(t: CType, a: i128) -> i128
     wrap(t, -a)
 }
 
-fn inverted(t: CType, a: i128) -> i128
+fn inversion(t: CType, a: i128) -> i128
     requires arithmetic { t ≢ Bint }
     requires operand { IsInRange t a }
     ensures { result ≡ unary_value Invert t a }

@@ -8,11 +8,12 @@ use Rattle.px_tree.specs.declared.typings.«Type».{«Type» as Typing}
 use Rattle.px_tree.specs.declared.expressions.Expr.{Expr}
 use Rattle.px_tree.specs.declared.expressions.ExprForm.TheVariants as form
 use Rattle.px_tree.specs.declared.expressions.Entry.{Entry}
-use Rattle.px_exprs.specs.Terminals.{Terminal, HasKind, IsKeyword, IsOperator, IsName, IsAt}
+use Rattle.px_lexer.specs.Terminals.{Terminal, HasKind, IsKeyword, IsOperator, IsName, IsAt}
 use Rattle.px_exprs.specs.Typings.{IsTyping}
 use Rattle.px_exprs.specs.Grammar.{node, AreTexts, IsExpr, HasComma, AreExprs, AreEntries, IsAtom, HasCommas}
 use Rattle.px_exprs.specs.Codes.{code_at, Past}
-use Rattle.px_exprs.proofs.Codes.{code_here, name_code, one_place, one_name, one_number, one_content}
+use Rattle.px_exprs.proofs.Codes.{code_here, name_code}
+use Rattle.px_lexer.proofs.OneToken.{one_place, one_name, one_number, one_content}
 use Rattle.px_exprs.proofs.Only.{IsOnly, Closes}
 use Rattle.px_exprs.proofs.Beginnings.{expr_begins, exprs_begin, entries_begin, texts_begin, atom_first}
 use Rattle.px_exprs.proofs.Telling.{stop_here}

@@ -18,22 +18,24 @@ use Rattle.px_tree.specs.declared.expressions.Entry.{Entry}
 use Rattle.px_tree.specs.declared.expressions.ExprForm.TheVariants as form
 use Rattle.px_exprs.specs.declared.readings.Unread.{Unread}
 use Rattle.px_exprs.specs.declared.readings.Unread.TheVariants as unread
-use Rattle.px_exprs.specs.Terminals.{Terminal, Stands, HasKind, IsKeyword, IsOperator, IsAt}
+use Rattle.px_lexer.specs.Terminals.{Terminal, Stands, HasKind, IsKeyword, IsOperator, IsAt, terminals_of}
 use Rattle.px_exprs.specs.Typings.{bases, IsTyping, HasConst, HasAxes}
 use Rattle.px_exprs.specs.Codes.{kind_code, sign_code, word_code, code_at, is_text_kind, Past}
 use Rattle.px_exprs.specs.Grammar.{node, AreTexts, IsAtom, AreExprs, AreEntries, HasComma, HasCommas}
 use Rattle.px_lexer.specs.declared.token_list.Tokens.{Tokens}
-use Rattle.px_exprs.specs.Inputs.{IsInput, terminals_of}
+use Rattle.px_exprs.specs.Inputs.{IsInput}
 use Rattle.px_exprs.specs.Lists.{Listed}
 use Rattle.px_exprs.specs.Parts.{IsTupleOf}
 use Rattle.px_exprs.specs.Words.{IsBehind, IsNamed, IsTooDeepAt}
 use Rattle.px_exprs.specs.Readings.{Form, Stops, Agree, At, HasWay, IsReached, IsStuck, IsOver, IsUnread, IsReading}
 use Rattle.px_exprs.proofs.Agreement.{agree_back, agree_through, agree_carried, agree_append, agree_front, agree_take, kind_carried}
-use Rattle.px_exprs.proofs.Codes.{code_here, name_code, one_kind}
+use Rattle.px_exprs.proofs.Codes.{code_here, name_code}
+use Rattle.px_lexer.proofs.OneToken.{one_kind}
 use Rattle.px_exprs.proofs.Beginnings.{atom_first, atom_begins}
 use Rattle.px_exprs.proofs.Keeping.{place_carried, names_carried, view_carried, const_carried, comma_carried, exprs_carried, entries_carried}
 use Rattle.px_exprs.proofs.Stops.{past_behind, code_carried}
-use Rattle.px_exprs.proofs.TokenReading.{goes_on, length_terminals, some_name}
+use Rattle.px_exprs.proofs.TokenReading.{goes_on}
+use Rattle.px_lexer.proofs.TokenAccess.{length_terminals, some_name}
 use Rattle.px_exprs.proofs.Fresh.{stands_behind, way_atom}
 use Rattle.px_exprs.proofs.Steps.{Step, way_made, fails}
 use Rattle.px_exprs.proofs.Elements.{below_next, not_below}

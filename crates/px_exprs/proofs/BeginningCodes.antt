@@ -8,7 +8,7 @@ use Rattle.px_lexer.specs.declared.spelling.Operator.{Operator}
 use Rattle.px_lexer.specs.declared.spelling.Operator.TheVariants as sign
 use Rattle.px_tree.specs.declared.expressions.Expr.{Expr}
 use Rattle.px_lexer.specs.declared.token_list.TokenKind.{TokenKind}
-use Rattle.px_exprs.specs.Terminals.{Terminal, HasKind}
+use Rattle.px_lexer.specs.Terminals.{Terminal, HasKind}
 use Rattle.px_exprs.specs.Grammar.{Level, unary_operators, IsOf, IsExpr, IsOr, IsAnd, IsNot, IsCompare, IsBinary, IsUnary, IsPrimary, IsAtom}
 use Rattle.px_exprs.specs.Codes.{code_of, code_at, sign_code, begins_code}
 use Rattle.px_exprs.proofs.Codes.{code_here, name_code}

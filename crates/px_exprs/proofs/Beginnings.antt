@@ -9,7 +9,7 @@ use Rattle.px_tree.specs.declared.expressions.Trailer.{Trailer}
 use Rattle.px_tree.specs.declared.expressions.Argument.{Argument}
 use Rattle.px_tree.specs.declared.expressions.Item.{Item}
 use Rattle.px_tree.specs.declared.expressions.Entry.{Entry}
-use Rattle.px_exprs.specs.Terminals.{Terminal, IsOperator}
+use Rattle.px_lexer.specs.Terminals.{Terminal, IsOperator}
 use Rattle.px_exprs.specs.Grammar.{Level, binary_levels, AreTexts, IsCompareOp, IsExpr, IsOr, AreOrs, IsAnd, AreAnds, IsNot, IsCompare, AreComparisons, IsBinary, AreLinks, IsUnary, IsPrimary, AreTrailers, IsTrailer, AreArguments, IsArgument, AreItems, IsItem, MaybeExpr, AreExprs, AreEntries, IsAtom}
 use Rattle.px_exprs.specs.Codes.{code_at}
 use Rattle.px_exprs.proofs.Codes.{code_here, name_code}

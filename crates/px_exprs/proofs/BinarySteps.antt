@@ -13,12 +13,12 @@ use Rattle.px_tree.specs.declared.expressions.ExprForm.TheVariants as form
 use Rattle.px_tree.specs.declared.expressions.Link.{Link}
 use Rattle.px_exprs.specs.declared.readings.Read.{Read}
 use Rattle.px_exprs.specs.declared.readings.Unread.{Unread}
-use Rattle.px_exprs.specs.Terminals.{Terminal, IsAt}
+use Rattle.px_lexer.specs.Terminals.{Terminal, IsAt, terminals_of}
 use Rattle.px_exprs.specs.Codes.{Past}
 use Rattle.px_exprs.specs.Grammar.{Level, IsOf, link, node, IsBinary, AreLinks, IsUnary}
 use Rattle.px_exprs.specs.Lists.{Ran}
 use Rattle.px_exprs.specs.Parts.{IsLink, AreTighter, levels_of, below as one_tighter}
-use Rattle.px_exprs.specs.Inputs.{IsInput, terminals_of}
+use Rattle.px_exprs.specs.Inputs.{IsInput}
 use Rattle.px_exprs.specs.Words.{IsTooDeepAt}
 use Rattle.px_exprs.specs.Readings.{Agree, HasWay, IsUnread, IsReading, Reads}
 use Rattle.px_exprs.proofs.Agreement.{agree_same}
@@ -183,6 +183,10 @@ some_meant P Q None h e = absurd (false≢true e)
 pub none_meant : {A : Type 0} (P : Type 0) (Q : A → Type 0) (r : Option A) → MatchOption r P Q → is_some r ≡ false → P
 none_meant P Q (Some m) h e = absurd (false≢true (sym e))
 none_meant P Q None h e = h
+
+pub meant_some : {A : Type 0} (Q : A → Type 0) (r : Option A) → MatchOption r ((m : A) → Q m → ⊥) Q → (m : A) → Q m → is_some r ≡ true
+meant_some Q (Some m) h other q = refl
+meant_some Q None h other q = absurd (h other q)
 
 -- What the reader of a level answers
 

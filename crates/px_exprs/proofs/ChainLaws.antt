@@ -1,6 +1,6 @@
 -- Forms that are elements one behind the other, one or more.
 use Rattle.std.proofs.Common.{◌≡◌, ℕ, suc, max, ◌≤◌, ◌<◌, ◌++◌, List, [], ◌∷◌, refl, sym, subst, arith}
-use Rattle.px_exprs.specs.Terminals.{Terminal}
+use Rattle.px_lexer.specs.Terminals.{Terminal}
 use Rattle.px_exprs.specs.Readings.{Form, Stops, Agree}
 use Rattle.px_exprs.specs.Lists.{Ran}
 use Rattle.px_exprs.proofs.Agreement.{agree_same, agree_carried}

@@ -12,10 +12,10 @@ use Rattle.px_tree.specs.declared.expressions.Comparison.{Comparison}
 use Rattle.px_tree.specs.declared.expressions.Expr.{Expr}
 use Rattle.px_tree.specs.declared.expressions.ExprForm.TheVariants as form
 use Rattle.px_exprs.specs.declared.readings.Unread.{Unread}
-use Rattle.px_exprs.specs.Terminals.{Terminal, IsKeyword, IsAt}
+use Rattle.px_lexer.specs.Terminals.{Terminal, IsKeyword, IsAt, terminals_of}
 use Rattle.px_exprs.specs.Codes.{code_at, Past}
 use Rattle.px_exprs.specs.Grammar.{binary_levels, IsCompareOp, comparison, node, IsBinary, IsCompare, AreComparisons}
-use Rattle.px_exprs.specs.Inputs.{IsInput, terminals_of}
+use Rattle.px_exprs.specs.Inputs.{IsInput}
 use Rattle.px_exprs.specs.Lists.{Ran}
 use Rattle.px_exprs.specs.Parts.{BeginsComparison, IsComparison, IsNotBehind}
 use Rattle.px_exprs.specs.Readings.{Agree, HasWay, HasShallow, IsReached, IsUnread, IsReading}

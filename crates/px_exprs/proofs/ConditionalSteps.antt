@@ -9,7 +9,7 @@ use Rattle.px_tree.specs.declared.expressions.ExprForm.{ExprForm}
 use Rattle.px_tree.specs.declared.expressions.ExprForm.TheVariants as form
 use Rattle.px_exprs.specs.declared.readings.Unread.{Unread}
 use Rattle.px_exprs.specs.declared.readings.Unread.TheVariants as unread
-use Rattle.px_exprs.specs.Terminals.{Terminal, IsKeyword, IsAt}
+use Rattle.px_lexer.specs.Terminals.{Terminal, IsKeyword, IsAt}
 use Rattle.px_exprs.specs.Codes.{Past}
 use Rattle.px_exprs.specs.Grammar.{node, IsExpr, IsOr}
 use Rattle.px_exprs.specs.Parts.{IsAlternative}

@@ -3,12 +3,12 @@ use Rattle.std.proofs.Common.{◌≡◌, ℕ, suc, max, nat_lt, ◌≤◌, ◌<�
 use Rattle.std.proofs.lemmas.Bool.{le-ltb, lt-ltb}
 use Rattle.px_lexer.specs.declared.spelling.Operator.{Operator}
 use Rattle.px_lexer.specs.declared.spelling.Operator.TheVariants as sign
-use Rattle.px_exprs.specs.Terminals.{Terminal, IsOperator}
+use Rattle.px_lexer.specs.Terminals.{Terminal, IsOperator}
 use Rattle.px_exprs.specs.Grammar.{HasComma}
 use Rattle.px_exprs.specs.Readings.{Form, Agree, At, EndsElement}
 use Rattle.px_exprs.specs.Lists.{Front, Listed}
 use Rattle.px_exprs.proofs.Agreement.{agree_same, agree_back, agree_carried, kind_carried}
-use Rattle.px_exprs.proofs.Codes.{one_operator}
+use Rattle.px_lexer.proofs.OneToken.{one_operator}
 use Rattle.px_exprs.proofs.Only.{IsOnly}
 use Rattle.px_exprs.proofs.Steps.{Part, Step}
 

@@ -3,7 +3,7 @@ use Rattle.std.proofs.Common.{◌≡◌, ℕ, suc, ◌≤◌, ◌++◌, length, 
 use Rattle.std.proofs.lemmas.List.{length-append, length-take-le}
 use Rattle.px_lexer.specs.declared.token_list.TokenKind.TheVariants as kind
 use Rattle.px_tree.specs.declared.expressions.ExprForm.TheVariants as form
-use Rattle.px_exprs.specs.Terminals.{Terminal, Stands}
+use Rattle.px_lexer.specs.Terminals.{Terminal, Stands}
 use Rattle.px_exprs.specs.Grammar.{Level, binary_levels, node, IsExpr, IsOr, IsAnd, IsNot, IsCompare, IsBinary, IsUnary, IsPrimary, IsAtom}
 use Rattle.px_exprs.specs.Readings.{Form, HasShallow}
 use Rattle.px_exprs.proofs.Agreement.{agree_take}

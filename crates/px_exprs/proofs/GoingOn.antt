@@ -20,7 +20,7 @@ use Rattle.px_tree.specs.declared.expressions.Comparison.{Comparison}
 use Rattle.px_tree.specs.declared.expressions.Link.{Link}
 use Rattle.px_tree.specs.declared.expressions.Trailer.{Trailer}
 use Rattle.px_tree.specs.declared.expressions.Trailer.TheVariants as trailer
-use Rattle.px_exprs.specs.Terminals.{Terminal, Stands, HasKind, IsKeyword, IsOperator, IsName, IsAt}
+use Rattle.px_lexer.specs.Terminals.{Terminal, Stands, HasKind, IsKeyword, IsOperator, IsName, IsAt}
 use Rattle.px_exprs.specs.Typings.{IsTyping}
 use Rattle.px_exprs.specs.Grammar.{Level, binary_levels, node, link, comparison, unary_operators, IsOf, IsCompareOp, AreTexts, IsExpr, IsOr, AreOrs, IsAnd, AreAnds, IsNot, IsCompare, AreComparisons, IsBinary, AreLinks, IsUnary, IsPrimary, AreTrailers, IsTrailer, AreItems, IsItem, HasComma, IsAtom}
 use Rattle.px_exprs.specs.Readings.{Form, Agree, HasWay}
@@ -31,7 +31,7 @@ use Rattle.px_exprs.proofs.Codes.{code_past}
 use Rattle.px_exprs.proofs.Tables.{six_levels}
 use Rattle.px_exprs.proofs.Telling.{Told, told_bounds, told_at, stop_above, AreWhole, are_whole}
 use Rattle.px_exprs.proofs.Stops.{past_behind}
-use Rattle.px_exprs.proofs.TokenReading.{name_kind}
+use Rattle.px_lexer.proofs.TokenAccess.{name_kind}
 use Rattle.px_exprs.proofs.Fresh.{some_name, IsFresh, stands_behind, fresh_operand, fresh_expr, way_binary, way_operand, way_not, way_and, way_or, way_expr}
 use Rattle.px_exprs.proofs.Keeping.{kind_carried, place_carried, of_carried, comparison_carried, texts_carried, typing_carried, typing_forward, texts_forward, expr_carried, or_carried, ors_carried, and_carried, ands_carried, not_carried, comparisons_carried, binary_carried, links_carried, unary_carried, trailers_carried, trailer_carried, atom_carried}
 

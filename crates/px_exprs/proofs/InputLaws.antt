@@ -18,14 +18,14 @@ use Rattle.px_lexer.specs.declared.token_list.TokenKind.TheVariants as kind
 use Rattle.px_lexer.specs.Characters.{unreadable, mark_len, characters_of, characters, byte_of}
 use Rattle.px_lexer.specs.Pieces.{Piece, AreBetween, is_content}
 use Rattle.px_lexer.specs.Lines.{Line, pieces_of, has_content, start_of, feeds_from, indented_to, indentation_end, level_of, last_level, open_levels, own_level, levels_of}
-use Rattle.px_lexer.specs.Tokens.{IsTokens, IsTokenOf, token_at, newline_at, token_behind, changes_at, level_changes, AreOfContent, AreOfLine, AreOfLines, end_of_text}
+use Rattle.px_lexer.specs.Tokens.{IsTokens, IsTokenOf, token_at, newline_at, token_behind, indentation_tokens, tokens_before_line, AreOfContent, AreOfLine, AreOfLines, end_of_text}
 use Rattle.px_lexer.proofs.CharacterLemmas.{characters_short}
 use Rattle.px_lexer.proofs.Cuts.{between_forward, all_mid}
 use Rattle.px_lexer.proofs.LevelLemmas.{open_levels-snoc}
 use Rattle.px_lexer.proofs.SpellingLemmas.{starts_fits}
-use Rattle.px_exprs.specs.Terminals.{terminals}
+use Rattle.px_lexer.specs.Terminals.{terminals, terminals_of}
 use Rattle.px_exprs.specs.Codes.{kind_code, code_at}
-use Rattle.px_exprs.specs.Inputs.{terminals_of, IsInput}
+use Rattle.px_exprs.specs.Inputs.{IsInput}
 
 -- Parts of lists
 
@@ -185,7 +185,7 @@ if_placed : (text : List ℕ) (b : Bool) (t : Token) → IsPlaced text t → All
 if_placed text true t p = All-cons (IsPlaced text) t [] p (All-nil (IsPlaced text))
 if_placed text false t p = All-nil (IsPlaced text)
 
-changes_placed : (text levels : List ℕ) (level at : ℕ) → at ≤ length (characters text) → All (IsPlaced text) (changes_at text levels level at)
+changes_placed : (text levels : List ℕ) (level at : ℕ) → at ≤ length (characters text) → All (IsPlaced text) (indentation_tokens text levels level at)
 changes_placed text levels level at inside =
     All-append (IsPlaced text) (if nat_lt (last_level levels) level then token_at text at at kind.Indent ∷ [] else [])
     (replicate (length (filter (nat_lt level) (open_levels levels))) (token_at text at at kind.Dedent))
@@ -207,9 +207,9 @@ content_placed : (text levels : List ℕ) (ps : List Piece) (newline : Token) (t
     → AreOfContent text levels ps newline tokens → All (IsPlaced text) tokens
 content_placed text levels ps newline tokens a p c =
     let inside = indented_inside (characters text) (start_of ps) (start_inside (length (characters text)) ps a) in
-    All-same (IsPlaced text) tokens (level_changes text levels ps ++ c.spelled ++ newline ∷ []) c.all
-    (All-append (IsPlaced text) (level_changes text levels ps ++ c.spelled) (newline ∷ [])
-    (All-append (IsPlaced text) (level_changes text levels ps) c.spelled (changes_placed text levels _ _ inside)
+    All-same (IsPlaced text) tokens (tokens_before_line text levels ps ++ c.spelled ++ newline ∷ []) c.all
+    (All-append (IsPlaced text) (tokens_before_line text levels ps ++ c.spelled) (newline ∷ [])
+    (All-append (IsPlaced text) (tokens_before_line text levels ps) c.spelled (changes_placed text levels _ _ inside)
     (spelled_placed text (filter (λ (q : Piece). is_content q.form) ps) c.spelled (All-filter (λ (q : Piece). is_content q.form) (IsInside (length (characters text))) ps a) c.each))
     (All-cons (IsPlaced text) newline [] p (All-nil (IsPlaced text))))
 

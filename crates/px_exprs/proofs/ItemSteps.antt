@@ -11,12 +11,13 @@ use Rattle.px_tree.specs.declared.expressions.Item.{Item}
 use Rattle.px_tree.specs.declared.expressions.Item.TheVariants as item
 use Rattle.px_exprs.specs.declared.readings.Unread.{Unread}
 use Rattle.px_exprs.specs.declared.readings.Unread.TheVariants as unread
-use Rattle.px_exprs.specs.Terminals.{Terminal, IsOperator}
+use Rattle.px_lexer.specs.Terminals.{Terminal, IsOperator, terminals_of}
 use Rattle.px_exprs.specs.Codes.{code_at, begins_code, Past}
 use Rattle.px_exprs.specs.Grammar.{IsExpr, AreItems, IsItem, MaybeExpr}
 use Rattle.px_exprs.specs.Readings.{Form, Stops, Agree, HasShallow, IsReached, IsStuck, IsUnread, IsReading, EndsElement, EndsBound}
-use Rattle.px_exprs.specs.Inputs.{IsInput, terminals_of}
-use Rattle.px_exprs.proofs.TokenReading.{goes_on, length_terminals}
+use Rattle.px_exprs.specs.Inputs.{IsInput}
+use Rattle.px_exprs.proofs.TokenReading.{goes_on}
+use Rattle.px_lexer.proofs.TokenAccess.{length_terminals}
 use Rattle.px_exprs.proofs.Agreement.{agree_same, agree_back, agree_carried, agree_append, agree_front, kind_carried}
 use Rattle.px_exprs.proofs.Codes.{code_here}
 use Rattle.px_exprs.proofs.Only.{IsOnly, From, EndsItem}

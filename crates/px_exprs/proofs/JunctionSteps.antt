@@ -14,7 +14,7 @@ use Rattle.px_exprs.specs.Inputs.{Nests}
 use Rattle.px_exprs.specs.declared.readings.Read.{Read}
 use Rattle.px_exprs.specs.declared.readings.Unread.{Unread}
 use Rattle.px_exprs.specs.declared.readings.Unread.TheVariants as unread
-use Rattle.px_exprs.specs.Terminals.{Terminal, HasKind, IsKeyword, IsAt}
+use Rattle.px_lexer.specs.Terminals.{Terminal, HasKind, IsKeyword, IsAt}
 use Rattle.px_exprs.specs.Codes.{code_of, code_at, Past}
 use Rattle.px_exprs.specs.Grammar.{node, IsOr, AreOrs, IsAnd, AreAnds, IsNot, IsCompare}
 use Rattle.px_exprs.specs.Parts.{IsOrPart, IsAndPart}

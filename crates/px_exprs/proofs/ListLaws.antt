@@ -10,10 +10,11 @@ use Rattle.px_tree.specs.declared.expressions.Trailer.TheVariants as trailer
 use Rattle.px_tree.specs.declared.expressions.Argument.{Argument}
 use Rattle.px_tree.specs.declared.expressions.Item.{Item}
 use Rattle.px_tree.specs.declared.expressions.Item.TheVariants as item
-use Rattle.px_exprs.specs.Terminals.{Terminal, IsOperator, IsName, IsAt}
+use Rattle.px_lexer.specs.Terminals.{Terminal, IsOperator, IsName, IsAt}
 use Rattle.px_exprs.specs.Grammar.{node, argument, entry, IsExpr, IsPrimary, AreTrailers, IsTrailer, AreArguments, IsArgument, AreItems, IsItem, MaybeExpr, HasComma, AreExprs, AreEntries, IsAtom}
 use Rattle.px_exprs.specs.Codes.{code_at, stop_at, Past}
-use Rattle.px_exprs.proofs.Codes.{code_here, name_code, one_place, one_name}
+use Rattle.px_exprs.proofs.Codes.{code_here, name_code}
+use Rattle.px_lexer.proofs.OneToken.{one_place, one_name}
 use Rattle.px_exprs.proofs.Only.{IsOnly, From, Closes, EndsItem, ends_item, one_closing, no_more}
 use Rattle.px_exprs.proofs.Beginnings.{expr_begins, exprs_begin, entries_begin, arguments_begin, items_begin, maybe_begins, expr_alone}
 use Rattle.px_exprs.proofs.Telling.{stop_here}

@@ -5,12 +5,13 @@ use Rattle.px_lexer.specs.declared.spelling.Operator.TheVariants as sign
 use Rattle.px_lexer.specs.declared.token_list.Tokens.{Tokens}
 use Rattle.px_lexer.specs.declared.token_list.TokenKind.TheVariants as kind
 use Rattle.px_exprs.specs.declared.readings.Unread.{Unread}
-use Rattle.px_exprs.specs.Terminals.{Terminal, IsOperator}
-use Rattle.px_exprs.specs.Inputs.{IsInput, terminals_of}
+use Rattle.px_lexer.specs.Terminals.{Terminal, IsOperator, terminals_of}
+use Rattle.px_exprs.specs.Inputs.{IsInput}
 use Rattle.px_exprs.specs.Lists.{Front, Listed}
 use Rattle.px_exprs.specs.Readings.{Form, At, EndsElement, IsUnread, IsReading}
 use Rattle.px_exprs.proofs.Agreement.{agree_same}
-use Rattle.px_exprs.proofs.TokenReading.{goes_on, length_terminals}
+use Rattle.px_exprs.proofs.TokenReading.{goes_on}
+use Rattle.px_lexer.proofs.TokenAccess.{length_terminals}
 use Rattle.px_exprs.proofs.Steps.{fails}
 use Rattle.px_exprs.proofs.Elements.{IsElements, front_on, listed_front, listed_last, element_step}
 

@@ -1,19 +1,22 @@
 -- How the elements between brackets are read: which parts they have, and where they end.
-use Rattle.std.proofs.Common.{◌≡◌, ℕ, suc, max, ◌≤◌, ◌<◌, ◌++◌, length, take, inl, inr, Ok, Err, List, [], ◌∷◌, refl, sym, ap, ap₂, ◌∙◌, subst, arith}
+use Rattle.std.proofs.Common.{◌≡◌, ℕ, suc, max, ◌≤◌, ◌<◌, ◌++◌, length, take, inl, inr, Bool, Result, Ok, Err, MatchResult, List, [], ◌∷◌, refl, sym, ap, ap₂, ◌∙◌, subst, arith}
+use Rattle.std.specs.Prelude.{◌↔◌, IsTrue, IsFalse}
 use Rattle.std.proofs.lemmas.List.{length-append, length-take-le}
 use Rattle.px_lexer.specs.declared.spelling.Operator.{Operator}
 use Rattle.px_lexer.specs.declared.spelling.Operator.TheVariants as sign
 use Rattle.px_lexer.specs.declared.token_list.TokenKind.TheVariants as kind
 use Rattle.px_tree.specs.declared.expressions.Expr.{Expr}
 use Rattle.px_tree.specs.declared.expressions.Entry.{Entry}
-use Rattle.px_exprs.specs.Terminals.{Terminal, IsOperator}
-use Rattle.px_exprs.specs.Codes.{sign_code, Past}
+use Rattle.px_lexer.specs.Terminals.{Terminal, IsOperator}
+use Rattle.px_exprs.specs.Codes.{sign_code, Past, IsClosing}
 use Rattle.px_exprs.specs.Grammar.{entry, IsExpr, AreExprs, AreEntries}
 use Rattle.px_exprs.specs.Parts.{IsEntry}
+use Rattle.px_base.proofs.Facts.{denied}
+use Rattle.px_exprs.specs.declared.readings.Read.{Read}
 use Rattle.px_exprs.specs.declared.readings.Unread.{Unread}
 use Rattle.px_exprs.specs.declared.readings.Unread.TheVariants as unread
-use Rattle.px_exprs.specs.Words.{IsBehind}
-use Rattle.px_exprs.specs.Readings.{Form, Agree, EndsElement, IsReached, IsStuck, IsUnread, IsReading}
+use Rattle.px_exprs.specs.Words.{IsBehind, IsStuckAt}
+use Rattle.px_exprs.specs.Readings.{Form, Agree, EndsElement, IsReached, IsStuck, IsUnread, IsReading, Reads}
 use Rattle.px_exprs.proofs.Agreement.{agree_same, agree_back, agree_through, agree_carried, agree_append, agree_front, kind_carried}
 use Rattle.px_exprs.proofs.Codes.{code_here}
 use Rattle.px_exprs.proofs.Only.{IsOnly}
@@ -26,9 +29,6 @@ use Rattle.px_exprs.proofs.Steps.{Made, Step, reached_made, fails}
 use Rattle.px_exprs.proofs.Elements.{ElementsCase, IsElements}
 
 -- an operator that closes a list
-abbrev pub IsClosing : Operator → Type 0
-IsClosing closing = (28 ≤ sign_code closing) × (sign_code closing ≤ 30)
-
 pub ends_past : {closing : Operator} {ts : List Terminal} {j : ℕ} → IsClosing closing → EndsElement closing ts j → Past 26 ts j
 ends_past closes (inl comma) = sign_stops sign.Comma comma (omega arith) (omega arith)
 ends_past {closing} closes (inr close) = sign_stops closing close (omega (arith, closes.0)) (omega (arith, closes.0))
@@ -102,6 +102,17 @@ element_stuck {closing} {ts} {j = j} closes reading none = record {
       let end = same_end reading agree q (ends_past closes s) in
       none (ends_carried (subst (EndsElement closing us) (sym end) s) (omega arith) (agree_back us ts agree));
 }
+
+-- it is an element where it may end there, and stuck else
+pub element_kept : {closing : Operator} {ts : List Terminal} {i room : ℕ} (read : Read Expr) (may_end : Bool) → IsClosing closing → IsReading IsExpr (Past 26) ts i room read.tree read.depth read.to
+    → (IsTrue may_end ↔ EndsElement closing ts read.to) → (r : Result (Read Expr) Unread) → MatchResult r (λ kept. IsTrue may_end × (kept ≡ read)) (λ u. IsFalse may_end × IsStuckAt read.to u)
+    → Reads IsExpr (EndsElement closing) ts i room r
+element_kept {closing} {ts} {i} {room} read may_end closes reading ends (Ok kept) h =
+    let whole : IsReading IsExpr (EndsElement closing) ts i room read.tree read.depth read.to = record { derived = reading.derived; shallow = reading.shallow; stops = ends.0 h.0; within = reading.within } in
+    subst (λ (x : Read Expr). IsReading IsExpr (EndsElement closing) ts i room x.tree x.depth x.to) (sym h.1) whole
+element_kept {closing} {ts} {i} {room} read may_end closes reading ends (Err (unread.Stuck k)) h = subst (IsStuck IsExpr (EndsElement closing) ts i room) (sym h.1) (element_stuck closes reading (denied ends h.0))
+element_kept read may_end closes reading ends (Err (unread.TooDeep k)) h = absurd h.1
+element_kept read may_end closes reading ends (Err unread.NoMemory) h = absurd h.1
 
 -- Entries
 

@@ -1,6 +1,6 @@
 -- Two derivations from one index that agree.
 use Rattle.std.proofs.Common.{◌≡◌, ℕ, suc, ◌≤◌, List, refl, arith}
-use Rattle.px_exprs.specs.Terminals.{Terminal, IsOperator}
+use Rattle.px_lexer.specs.Terminals.{Terminal, IsOperator}
 use Rattle.px_lexer.specs.declared.spelling.Operator.TheVariants as sign
 use Rattle.px_exprs.specs.Grammar.{HasComma}
 use Rattle.px_exprs.specs.Codes.{code_at}

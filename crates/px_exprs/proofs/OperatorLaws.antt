@@ -12,11 +12,12 @@ use Rattle.px_tree.specs.declared.expressions.ExprForm.{ExprForm}
 use Rattle.px_tree.specs.declared.expressions.ExprForm.TheVariants as form
 use Rattle.px_tree.specs.declared.expressions.Link.{Link}
 use Rattle.px_tree.specs.declared.expressions.Comparison.{Comparison}
-use Rattle.px_exprs.specs.Terminals.{Terminal, IsKeyword, IsOperator, IsAt}
+use Rattle.px_lexer.specs.Terminals.{Terminal, IsKeyword, IsOperator, IsAt}
 use Rattle.px_exprs.specs.Typings.{IsTyping}
 use Rattle.px_exprs.specs.Grammar.{Level, binary_levels, unary_operators, node, link, comparison, IsOf, IsCompareOp, IsExpr, IsOr, AreOrs, IsAnd, AreAnds, IsNot, IsCompare, AreComparisons, IsBinary, AreLinks, IsUnary, IsPrimary}
 use Rattle.px_exprs.specs.Codes.{code_at, stop_at, Past}
-use Rattle.px_exprs.proofs.Codes.{code_here, one_place}
+use Rattle.px_exprs.proofs.Codes.{code_here}
+use Rattle.px_lexer.proofs.OneToken.{one_place}
 use Rattle.px_exprs.proofs.Tables.{AreLevels, one_binary, one_unary, unary_code, one_comparison, compare_code}
 use Rattle.px_exprs.proofs.Only.{IsOnly}
 use Rattle.px_exprs.proofs.Beginnings.{primary_begins, compare_begins, binary_begins}

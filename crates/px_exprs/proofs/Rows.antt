@@ -3,7 +3,7 @@ use Rattle.std.proofs.Common.{◌≡◌, ℕ, ◌-◌, ◌<◌, ◌≤◌, true,
 use Rattle.std.proofs.lemmas.Bool.{and_parts}
 use Rattle.std.proofs.lemmas.List.{take_all}
 use Rattle.px_tree.specs.declared.typings.BaseType.{BaseType}
-use Rattle.px_exprs.specs.Terminals.{Terminal}
+use Rattle.px_lexer.specs.Terminals.{Terminal}
 use Rattle.px_exprs.specs.Typings.{AreNames}
 use Rattle.px_exprs.specs.TypeParts.{IsBaseOf, words_are_ascii, table_is_ascii}
 use Rattle.px_exprs.proofs.TypeReading.{row_left, row_more, row_here}

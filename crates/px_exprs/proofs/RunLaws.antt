@@ -5,14 +5,15 @@ use Rattle.std.proofs.lemmas.List.{length-append, length-take-le}
 use Rattle.px_base.specs.declared.refusals.Refusal.{Refusal}
 use Rattle.px_lexer.specs.declared.spelling.Keyword.TheVariants as word
 use Rattle.px_tree.specs.declared.expressions.Expr.{Expr}
-use Rattle.px_exprs.specs.Terminals.{Terminal, IsKeyword}
+use Rattle.px_lexer.specs.Terminals.{Terminal, IsKeyword}
 use Rattle.px_exprs.specs.Codes.{stop_at, Past}
 use Rattle.px_exprs.specs.Grammar.{IsExpr}
 use Rattle.px_exprs.specs.Laws.{ReadingsAreUnique}
 use Rattle.px_exprs.specs.Readings.{Agree, HasWay, HasShallow, IsReached, IsStuck, IsOver, IsReading}
 use Rattle.px_exprs.specs.Runs.{Begins, IsRun, IsTooDeep, IsNestedTooDeep, IsNoExpression, IsRead, IsRefusalAt, IsExpressionRefused}
 use Rattle.px_exprs.proofs.Agreement.{agree_same, agree_carried, agree_front, agree_take}
-use Rattle.px_exprs.proofs.Codes.{code_past, one_token}
+use Rattle.px_exprs.proofs.Codes.{code_past}
+use Rattle.px_lexer.proofs.OneToken.{one_token}
 use Rattle.px_exprs.proofs.GoingOn.{expr_goes_on}
 use Rattle.px_exprs.proofs.Keeping.{expr_carried}
 use Rattle.px_exprs.proofs.Stops.{past_from, past_carried}

@@ -2,7 +2,7 @@
 use Rattle.std.proofs.Common.{ℕ, suc, ◌≤◌, ◌<◌, length, List, arith}
 use Rattle.px_exprs.specs.declared.readings.Unread.{Unread}
 use Rattle.px_exprs.specs.declared.readings.Unread.TheVariants as unread
-use Rattle.px_exprs.specs.Terminals.{Terminal}
+use Rattle.px_lexer.specs.Terminals.{Terminal}
 use Rattle.px_exprs.proofs.Agreement.{agree_carried, agree_through}
 use Rattle.px_exprs.specs.Readings.{Form, Stops, Agree, HasWay, HasShallow, IsReached, IsUnread}
 

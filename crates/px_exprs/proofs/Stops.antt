@@ -13,7 +13,7 @@ use Rattle.px_tree.specs.declared.expressions.Expr.{Expr}
 use Rattle.px_tree.specs.declared.expressions.Comparison.{Comparison}
 use Rattle.px_tree.specs.declared.expressions.Link.{Link}
 use Rattle.px_tree.specs.declared.expressions.Trailer.{Trailer}
-use Rattle.px_exprs.specs.Terminals.{Terminal, HasKind, IsKeyword, IsOperator}
+use Rattle.px_lexer.specs.Terminals.{Terminal, HasKind, IsKeyword, IsOperator}
 use Rattle.px_exprs.specs.Grammar.{Level, compare_signs, IsOf, IsCompareOp, AreOrs, AreAnds, AreComparisons, AreLinks, AreTrailers, IsTrailer}
 use Rattle.px_exprs.specs.Readings.{Agree}
 use Rattle.px_exprs.specs.Codes.{sign_code, kind_code, code_of, code_at, is_text_kind, is_text, following_text, behind_text, stop_at, Past}

@@ -9,10 +9,11 @@ use Rattle.px_lexer.specs.declared.spelling.Operator.{Operator}
 use Rattle.px_lexer.specs.declared.spelling.Operator.TheVariants as sign
 use Rattle.px_tree.specs.declared.expressions.CompareOp.{CompareOp}
 use Rattle.px_tree.specs.declared.expressions.CompareOp.TheVariants as compare
-use Rattle.px_exprs.specs.Terminals.{Terminal}
+use Rattle.px_lexer.specs.Terminals.{Terminal}
 use Rattle.px_exprs.specs.Grammar.{Level, binary_levels, unary_operators, compare_signs, IsOf}
 use Rattle.px_exprs.specs.Codes.{code_at, sign_code}
-use Rattle.px_exprs.proofs.Codes.{code_here, one_operator}
+use Rattle.px_exprs.proofs.Codes.{code_here}
+use Rattle.px_lexer.proofs.OneToken.{one_operator}
 
 -- a meaning of each operator
 abbrev binary_meaning : Operator → BinOp

@@ -2,7 +2,7 @@
 use Rattle.std.proofs.Common.{◌≡◌, ℕ, suc, max, ◌+◌, ◌≤◌, ◌<◌, length, take, List, sym, subst, arith}
 use Rattle.std.proofs.lemmas.List.{length-take-le}
 use Rattle.px_lexer.specs.declared.spelling.Keyword.TheVariants as word
-use Rattle.px_exprs.specs.Terminals.{Terminal, IsKeyword}
+use Rattle.px_lexer.specs.Terminals.{Terminal, IsKeyword}
 use Rattle.px_exprs.specs.Readings.{Form, Stops, Agree, HasWay, IsReached, IsOver, IsReading}
 use Rattle.px_exprs.proofs.Agreement.{agree_same, agree_front}
 use Rattle.px_exprs.proofs.Only.{IsOnly}

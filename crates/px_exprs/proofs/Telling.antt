@@ -12,7 +12,7 @@ use Rattle.px_lexer.specs.declared.token_list.TokenKind.{TokenKind}
 use Rattle.px_lexer.specs.declared.token_list.TokenKind.TheVariants as kind
 use Rattle.px_tree.specs.declared.expressions.CompareOp.{CompareOp}
 use Rattle.px_tree.specs.declared.expressions.CompareOp.TheVariants as compare
-use Rattle.px_exprs.specs.Terminals.{Terminal, HasKind, IsKeyword, IsOperator}
+use Rattle.px_lexer.specs.Terminals.{Terminal, HasKind, IsKeyword, IsOperator}
 use Rattle.px_exprs.specs.Grammar.{Level, binary_levels, compare_signs, IsOf}
 use Rattle.px_exprs.proofs.Codes.{code_past}
 use Rattle.px_exprs.specs.Codes.{sign_code, kind_code, code_of, code_at, following, is_text_kind, is_text, following_text, behind_text, stop_at}

@@ -15,7 +15,7 @@ use Rattle.px_tree.specs.declared.expressions.Trailer.{Trailer}
 use Rattle.px_tree.specs.declared.expressions.Trailer.TheVariants as trailer
 use Rattle.px_exprs.specs.declared.readings.Unread.{Unread}
 use Rattle.px_exprs.specs.declared.readings.Unread.TheVariants as unread
-use Rattle.px_exprs.specs.Terminals.{Terminal, IsKeyword, IsOperator, IsName, IsAt}
+use Rattle.px_lexer.specs.Terminals.{Terminal, IsKeyword, IsOperator, IsName, IsAt, terminals_of}
 use Rattle.px_exprs.specs.Codes.{code_of, code_at, stop_at, Past}
 use Rattle.px_exprs.proofs.Telling.{stop_here}
 use Rattle.px_exprs.specs.Grammar.{node, argument, IsExpr, IsAtom, IsPrimary, AreTrailers, IsTrailer, AreArguments, IsArgument, AreItems, IsItem, HasComma}
@@ -23,11 +23,13 @@ use Rattle.px_exprs.specs.Lists.{Front, Listed, Ran}
 use Rattle.px_exprs.specs.Parts.{BeginsTrailer}
 use Rattle.px_exprs.specs.Readings.{Form, Agree, At, EndsElement, HasWay, HasShallow, IsReached, IsStuck, IsOver, IsUnread, IsReading}
 use Rattle.px_lexer.specs.declared.token_list.Tokens.{Tokens}
-use Rattle.px_exprs.specs.Inputs.{IsInput, terminals_of}
-use Rattle.px_exprs.proofs.TokenReading.{goes_on, name_kind, length_terminals}
+use Rattle.px_exprs.specs.Inputs.{IsInput}
+use Rattle.px_exprs.proofs.TokenReading.{goes_on}
+use Rattle.px_lexer.proofs.TokenAccess.{name_kind, length_terminals}
 use Rattle.std.proofs.lemmas.Bool.{lt-ltb, false≢true}
 use Rattle.px_exprs.proofs.Agreement.{agree_same, agree_back, agree_through, agree_carried, agree_append, agree_front, agree_take, kind_carried}
-use Rattle.px_exprs.proofs.Codes.{code_here, one_operator}
+use Rattle.px_exprs.proofs.Codes.{code_here}
+use Rattle.px_lexer.proofs.OneToken.{one_operator}
 use Rattle.px_exprs.proofs.Only.{EndsItem}
 use Rattle.px_exprs.proofs.Beginnings.{atom_begins, expr_alone}
 use Rattle.px_exprs.proofs.Codes.{name_code}

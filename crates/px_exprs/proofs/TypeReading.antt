@@ -20,18 +20,19 @@ use Rattle.px_tree.specs.declared.typings.«Type».{«Type» as Typing}
 use Rattle.px_exprs.specs.declared.readings.Read.{Read}
 use Rattle.px_exprs.specs.declared.readings.Unread.{Unread}
 use Rattle.px_exprs.specs.declared.readings.Unread.TheVariants as unread
-use Rattle.px_exprs.specs.Terminals.{Terminal, Stands, IsOperator, IsName, IsAt}
+use Rattle.px_lexer.specs.Terminals.{Terminal, Stands, IsOperator, IsName, IsAt, terminals_of}
 use Rattle.px_exprs.specs.Typings.{bases, AreNames, IsBase, IsAxis, AreAxes, HasAxes, HasConst, IsTyping}
 use Rattle.px_exprs.specs.Codes.{code_at, sign_code}
 use Rattle.px_exprs.specs.Readings.{Agree, HasWay, IsStuck, IsOver, IsUnread, At, EndsElement}
 use Rattle.px_exprs.specs.Words.{IsOne, IsStuckAt, IsTooDeepAt}
-use Rattle.px_exprs.specs.TypeParts.{Flat, ReadsFlat, NoName, IsBaseOf, IsBehindConst}
-use Rattle.px_exprs.specs.Inputs.{IsInput, terminals_of}
+use Rattle.px_exprs.specs.TypeParts.{Flat, ReadsFlat, ReadsInPlace, NoName, IsBaseOf, IsBehindConst}
+use Rattle.px_exprs.specs.Inputs.{IsInput}
 use Rattle.px_exprs.proofs.Codes.{code_here, name_code}
 use Rattle.px_exprs.proofs.Agreement.{agree_same, agree_back, agree_through, agree_carried, agree_append, agree_take}
 use Rattle.px_exprs.proofs.Keeping.{kind_carried, name_carried, names_carried, axis_carried, axes_carried, view_carried, const_carried}
 use Rattle.px_exprs.proofs.TypingLaws.{same_words, base_tells, begins_base, const_begins_none, axis_unique, axes_unique}
-use Rattle.px_exprs.proofs.TokenReading.{goes_on, stands_within, name_kind}
+use Rattle.px_exprs.proofs.TokenReading.{goes_on}
+use Rattle.px_lexer.proofs.TokenAccess.{stands_within, name_kind}
 use Rattle.px_exprs.proofs.Ways.{sign_token, word_token, digit_token, sign_behind, word_behind, stands_behind, way_by, reached_by, reached_through}
 
 -- Order
@@ -345,7 +346,7 @@ contiguous_stuck ts from lt colon second one none =
 pub ended_reads : (ts : List Terminal) (from to : ℕ) (tree : Axis) (r : Result (Read Axis) Unread) → IsAxis ts from tree to
     → ((EndsElement sign.CloseBracket ts to → ⊥) → IsStuck (Flat IsAxis) (EndsElement sign.CloseBracket) ts from 0 to)
     → MatchResult r (λ read. (read.tree ≡ tree) × (read.depth ≡ 0) × (read.to ≡ to) × EndsElement sign.CloseBracket ts to) (λ u. IsStuckAt to u × (EndsElement sign.CloseBracket ts to → ⊥))
-    → ReadsFlat IsAxis (EndsElement sign.CloseBracket) ts from r
+    → ReadsInPlace IsAxis (EndsElement sign.CloseBracket) ts from r
 ended_reads ts from to tree (Ok read) h stuck m = record {
   derived = (subst (λ x. IsAxis ts from x read.to) (sym m.0) (subst (IsAxis ts from tree) (sym m.2) h), m.1);
   shallow = omega (arith, m.1);
@@ -647,17 +648,17 @@ base_absent r ts i j e h = subst (λ x. MatchOption x ((b : BaseType) → IsBase
 
 -- What stopped a part stops the whole
 
-pub first_unread : (ts : List Terminal) (from : ℕ) (u : Unread) → ReadsFlat IsAxis (EndsElement sign.CloseBracket) ts from (Err u) → ReadsFlat AreAxes (At sign.CloseBracket) ts from (Err u)
+pub first_unread : (ts : List Terminal) (from : ℕ) (u : Unread) → ReadsInPlace IsAxis (EndsElement sign.CloseBracket) ts from (Err u) → ReadsFlat AreAxes (At sign.CloseBracket) ts from (Err u)
 first_unread ts from (unread.Stuck k) h = first_stuck ts from k h
 first_unread ts from (unread.TooDeep k) h = h
-first_unread ts from unread.NoMemory h = tt
+first_unread ts from unread.NoMemory h = absurd h
 
 pub next_unread : (ts : List Terminal) (from m i : ℕ) (axes : List Axis) (u : Unread) → i ≡ suc m → AreAxes ts from axes m → IsOperator ts m sign.Comma
-    → ReadsFlat IsAxis (EndsElement sign.CloseBracket) ts i (Err u)
+    → ReadsInPlace IsAxis (EndsElement sign.CloseBracket) ts i (Err u)
     → ReadsFlat AreAxes (At sign.CloseBracket) ts from (Err u)
 next_unread ts from m i axes (unread.Stuck k) e before comma h = next_stuck ts from m k axes before comma (subst (λ x. IsStuck (Flat IsAxis) (EndsElement sign.CloseBracket) ts x 0 k) e h)
 next_unread ts from m i axes (unread.TooDeep k) e before comma h = h
-next_unread ts from m i axes unread.NoMemory e before comma h = tt
+next_unread ts from m i axes unread.NoMemory e before comma h = absurd h
 
 pub room_unread : (ts : List Terminal) (from room : ℕ) (closing : Operator) (u : Unread) → from < length ts → 11 ≤ sign_code closing → IsOperator ts from sign.OpenBracket
     → IsTooDeepAt from u → room ≤ 0 → IsUnread HasAxes (At closing) ts from room u
@@ -673,11 +674,11 @@ view_axes_unread ts from i room closing (unread.Stuck k) e low some opened h = v
 view_axes_unread ts from i room closing (unread.TooDeep k) e low some opened h = absurd h
 view_axes_unread ts from i room closing unread.NoMemory e low some opened h = tt
 
-pub typing_base_unread : (ts : List Terminal) (from i room : ℕ) (closing : Operator) (u : Unread) → 11 ≤ sign_code closing → IsBehindConst ts from i → ReadsFlat IsBase NoName ts i (Err u)
+pub typing_base_unread : (ts : List Terminal) (from i room : ℕ) (closing : Operator) (u : Unread) → 11 ≤ sign_code closing → IsBehindConst ts from i → ReadsInPlace IsBase NoName ts i (Err u)
     → IsUnread IsTyping (At closing) ts from room u
 typing_base_unread ts from i room closing (unread.Stuck k) low taken h = typing_base_stuck ts from i room k closing low taken h
 typing_base_unread ts from i room closing (unread.TooDeep k) low taken h = absurd h
-typing_base_unread ts from i room closing unread.NoMemory low taken h = tt
+typing_base_unread ts from i room closing unread.NoMemory low taken h = absurd h
 
 -- Where parts end
 

@@ -7,10 +7,11 @@ use Rattle.px_tree.specs.declared.typings.Axis.{Axis}
 use Rattle.px_tree.specs.declared.typings.BaseType.{BaseType}
 use Rattle.px_tree.specs.declared.typings.BaseType.TheVariants as base
 use Rattle.px_tree.specs.declared.typings.«Type».{«Type» as Typing}
-use Rattle.px_exprs.specs.Terminals.{Terminal, IsName}
+use Rattle.px_lexer.specs.Terminals.{Terminal, IsName}
 use Rattle.px_exprs.specs.Typings.{bases, AreNames, IsBase, IsAxis, AreAxes, HasAxes, HasConst, IsTyping}
 use Rattle.px_exprs.specs.Codes.{code_at}
-use Rattle.px_exprs.proofs.Codes.{code_here, name_code, one_name, one_place}
+use Rattle.px_exprs.proofs.Codes.{code_here, name_code}
+use Rattle.px_lexer.proofs.OneToken.{one_name, one_place}
 use Rattle.px_exprs.proofs.Only.{Same}
 
 -- Bases

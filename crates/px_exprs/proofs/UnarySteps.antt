@@ -17,11 +17,11 @@ use Rattle.px_tree.specs.declared.expressions.ExprForm.TheVariants as form
 use Rattle.px_exprs.specs.declared.readings.Read.{Read}
 use Rattle.px_exprs.specs.declared.readings.Unread.{Unread}
 use Rattle.px_exprs.specs.declared.readings.Unread.TheVariants as unread
-use Rattle.px_exprs.specs.Terminals.{Terminal, Stands, IsOperator, IsAt}
+use Rattle.px_lexer.specs.Terminals.{Terminal, Stands, IsOperator, IsAt, terminals_of}
 use Rattle.px_exprs.specs.Typings.{HasConst, HasAxes, IsTyping, bases}
 use Rattle.px_exprs.specs.Codes.{Past}
 use Rattle.px_exprs.specs.Grammar.{IsOf, unary_operators, node, IsUnary, IsPrimary}
-use Rattle.px_exprs.specs.Inputs.{IsInput, terminals_of}
+use Rattle.px_exprs.specs.Inputs.{IsInput}
 use Rattle.px_exprs.specs.Words.{IsTooDeepAt}
 use Rattle.px_exprs.specs.Readings.{Form, Stops, Agree, HasWay, IsReached, IsOver, IsUnread, IsReading, Reads, At}
 use Rattle.px_exprs.proofs.Agreement.{agree_same, agree_back, agree_carried, agree_through, agree_front, agree_append}

@@ -8,7 +8,7 @@ use Rattle.px_tree.specs.declared.expressions.Argument.{Argument}
 use Rattle.px_tree.specs.declared.expressions.Item.{Item}
 use Rattle.px_tree.specs.declared.expressions.Entry.{Entry}
 use Rattle.px_exprs.specs.Laws.{ExpressionsAreUnique}
-use Rattle.px_exprs.specs.Terminals.{Terminal}
+use Rattle.px_lexer.specs.Terminals.{Terminal}
 use Rattle.px_exprs.specs.Grammar.{Level, binary_levels, IsExpr, IsOr, AreOrs, IsAnd, AreAnds, IsNot, IsCompare, AreComparisons, IsBinary, AreLinks, IsUnary, IsPrimary, AreTrailers, IsTrailer, AreArguments, IsArgument, AreItems, IsItem, MaybeExpr, AreExprs, AreEntries, IsAtom, HasCommas}
 use Rattle.px_exprs.specs.Codes.{Past}
 use Rattle.px_exprs.proofs.Codes.{code_past}

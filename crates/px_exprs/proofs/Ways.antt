@@ -4,7 +4,7 @@ use Rattle.std.proofs.lemmas.List.{length-append, length-take-le}
 use Rattle.std.specs.Prelude.{slice_get}
 use Rattle.px_lexer.specs.declared.spelling.Operator.{Operator}
 use Rattle.px_lexer.specs.declared.token_list.TokenKind.TheVariants as kind
-use Rattle.px_exprs.specs.Terminals.{Terminal, IsOperator, IsName}
+use Rattle.px_lexer.specs.Terminals.{Terminal, IsOperator, IsName}
 use Rattle.px_exprs.specs.Readings.{Form, HasWay, IsReached}
 use Rattle.px_exprs.proofs.Agreement.{agree_take}
 

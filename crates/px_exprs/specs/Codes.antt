@@ -1,13 +1,13 @@
 -- What a token is for the grammar, as a number: what begins an expression comes first, then what continues one, from the tightest
 -- operator to the loosest, and then what does neither. And where a form ends: before a token that doesn't go on with it.
-use Rattle.std.specs.Prelude.{ℕ, zero, suc, ◌≤◌, Bool, true, false, if◌then◌else◌, ◌&&◌, ◌||◌, nat_lt, nat_eq, List, Option, Some, None, slice_get}
+use Rattle.std.specs.Prelude.{ℕ, zero, suc, ◌+◌, ◌≤◌, Bool, true, false, if◌then◌else◌, ◌&&◌, ◌||◌, not, nat_lt, nat_eq, List, Option, Some, None, slice_get}
 use Rattle.px_lexer.specs.declared.spelling.Keyword.{Keyword}
 use Rattle.px_lexer.specs.declared.spelling.Keyword.TheVariants as word
 use Rattle.px_lexer.specs.declared.spelling.Operator.{Operator}
 use Rattle.px_lexer.specs.declared.spelling.Operator.TheVariants as sign
 use Rattle.px_lexer.specs.declared.token_list.TokenKind.{TokenKind}
 use Rattle.px_lexer.specs.declared.token_list.TokenKind.TheVariants as kind
-use Rattle.px_exprs.specs.Terminals.{Terminal}
+use Rattle.px_lexer.specs.Terminals.{Terminal}
 
 abbrev pub sign_code : Operator → ℕ
 sign_code sign.Point = 1
@@ -103,6 +103,50 @@ stop_at ts i = following_text (is_text (slice_get ts i)) (behind_text ts i) (cod
 -- a token stands here that goes on with no form below this code
 abbrev pub Past : ℕ → List Terminal → ℕ → Type 0
 Past n ts i = n ≤ stop_at ts i
+
+-- an atom ends: no string goes on with it
+abbrev pub EndsAtom : List Terminal → ℕ → Type 0
+EndsAtom = Past 1
+
+-- so does an atom with what stands behind it, or a sign or a cast with its operand
+abbrev pub EndsUnary : List Terminal → ℕ → Type 0
+EndsUnary = Past 12
+
+-- so does an operand of so many levels of binary operators
+abbrev pub EndsBinary : ℕ → List Terminal → ℕ → Type 0
+EndsBinary levels = Past (12 + levels)
+
+-- so do comparisons, and a `not` with its operand
+abbrev pub EndsComparison : List Terminal → ℕ → Type 0
+EndsComparison = Past 23
+
+-- so do operands of `and`
+abbrev pub EndsAnd : List Terminal → ℕ → Type 0
+EndsAnd = Past 24
+
+-- so do operands of `or`
+abbrev pub EndsOr : List Terminal → ℕ → Type 0
+EndsOr = Past 25
+
+-- so does an expression
+abbrev pub EndsExpr : List Terminal → ℕ → Type 0
+EndsExpr = Past 26
+
+-- a closing bracket
+abbrev pub IsClosing : Operator → Type 0
+IsClosing o = (28 ≤ sign_code o) × (sign_code o ≤ 30)
+
+-- an operator that can stand behind a type: it is no point and no opening bracket
+abbrev pub EndsType : Operator → Type 0
+EndsType o = 11 ≤ sign_code o
+
+-- the greatest code of a token that is a part of an expression or of a type
+abbrev pub part_code : ℕ
+part_code = 33
+
+-- whether a list of expressions ends before a token of this code: it neither begins nor goes on with one, and is no comma
+abbrev pub ends_exprs_code : ℕ → Bool
+ends_exprs_code c = not (nat_lt c 28)
 
 -- whether an expression begins with a token of this code
 abbrev pub begins_code : ℕ → Bool

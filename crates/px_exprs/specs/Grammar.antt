@@ -25,7 +25,7 @@ use Rattle.px_tree.specs.declared.expressions.Item.{Item}
 use Rattle.px_tree.specs.declared.expressions.Item.TheVariants as item
 use Rattle.px_tree.specs.declared.expressions.Link.{Link, roll-Link}
 use Rattle.px_tree.specs.declared.expressions.Comparison.{Comparison, roll-Comparison}
-use Rattle.px_exprs.specs.Terminals.{Terminal, HasKind, IsKeyword, IsOperator, IsName, IsAt}
+use Rattle.px_lexer.specs.Terminals.{Terminal, HasKind, IsKeyword, IsOperator, IsName, IsAt}
 use Rattle.px_exprs.specs.Typings.{IsTyping}
 
 -- The number of a node is the index of a token that belongs to no other node: of its first operator for a chain or a

@@ -4,7 +4,7 @@ use Rattle.px_base.specs.declared.refusals.Span.{Span}
 use Rattle.px_base.specs.declared.refusals.Refusal.{Refusal}
 use Rattle.px_tree.specs.declared.expressions.Expr.{Expr}
 use Rattle.px_tree.specs.declared.expressions.ExprForm.TheVariants as form
-use Rattle.px_exprs.specs.Terminals.{Terminal, IsAt, IsName}
+use Rattle.px_lexer.specs.Terminals.{Terminal, IsAt, IsName}
 use Rattle.px_exprs.specs.Grammar.{IsExpr, node}
 use Rattle.px_exprs.specs.Runs.{IsRead, IsExpressionRefused}
 use Rattle.px_exprs.specs.Marks.{IsMarkOf, node_marks}

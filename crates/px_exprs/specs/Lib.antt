@@ -8,7 +8,6 @@ pub mod NodeNumbers
 pub mod Parts
 pub mod Readings
 pub mod Runs
-pub mod Terminals
 pub mod TypeParts
 pub mod Typings
 pub mod Words

@@ -1,7 +1,7 @@
 -- Elements that are read one behind the other.
 use Rattle.std.specs.Prelude.{◌≡◌, ℕ, suc, max, nat_lt, Bool, true, false, List, [], ◌∷◌}
 use Rattle.px_lexer.specs.declared.spelling.Operator.TheVariants as sign
-use Rattle.px_exprs.specs.Terminals.{Terminal, IsOperator}
+use Rattle.px_lexer.specs.Terminals.{Terminal, IsOperator}
 use Rattle.px_exprs.specs.Grammar.{HasComma}
 use Rattle.px_exprs.specs.Readings.{Form}
 

@@ -6,7 +6,7 @@ use Rattle.px_lexer.specs.declared.token_list.TokenKind.TheVariants as kind
 use Rattle.px_tree.specs.declared.expressions.Expr.{Expr}
 use Rattle.px_tree.specs.declared.expressions.ExprForm.TheFolds.{fold-Expr}
 use Rattle.px_tree.specs.declared.expressions.ExprForm.TheOpen.{Expr-F, ExprForm-F, Entry-F, Trailer-F, Argument-F, Item-F, Link-F, Comparison-F}
-use Rattle.px_exprs.specs.Terminals.{Terminal, HasKind, IsName, IsAt}
+use Rattle.px_lexer.specs.Terminals.{Terminal, HasKind, IsName, IsAt}
 
 -- the place of a node or a type, the name of an identifier, an attribute or an argument, a number, the content of a string
 pub data Mark : Type 0 where

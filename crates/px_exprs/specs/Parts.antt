@@ -13,7 +13,7 @@ use Rattle.px_tree.specs.declared.expressions.Comparison.{Comparison}
 use Rattle.px_tree.specs.declared.expressions.CompareOp.{CompareOp}
 use Rattle.px_exprs.specs.declared.readings.Unread.{Unread}
 use Rattle.px_exprs.specs.declared.readings.Unread.TheVariants as unread
-use Rattle.px_exprs.specs.Terminals.{Terminal, IsKeyword, IsOperator, IsAt}
+use Rattle.px_lexer.specs.Terminals.{Terminal, IsKeyword, IsOperator, IsAt}
 use Rattle.px_exprs.specs.Grammar.{Level, binary_levels, link, comparison, entry, node, compare_signs, IsOf, IsCompareOp, IsExpr, IsOr, IsAnd, IsNot, IsBinary}
 
 -- `if`, the test, `else` and the other value

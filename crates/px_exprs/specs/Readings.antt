@@ -6,7 +6,7 @@ use Rattle.px_lexer.specs.declared.spelling.Operator.TheVariants as sign
 use Rattle.px_exprs.specs.declared.readings.Read.{Read}
 use Rattle.px_exprs.specs.declared.readings.Unread.{Unread}
 use Rattle.px_exprs.specs.declared.readings.Unread.TheVariants as unread
-use Rattle.px_exprs.specs.Terminals.{Terminal, IsKeyword, IsOperator}
+use Rattle.px_lexer.specs.Terminals.{Terminal, IsKeyword, IsOperator}
 
 -- a form: from one index to another, with a tree and a nesting
 abbrev pub Form : Type 0 → Type 1

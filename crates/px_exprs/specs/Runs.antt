@@ -3,7 +3,7 @@ use Rattle.std.specs.Prelude.{◌≡◌, ℕ, suc, ◌<◌, ◌≤◌, List, ◌
 use Rattle.px_tree.specs.declared.expressions.Expr.{Expr}
 use Rattle.px_base.specs.declared.refusals.Refusal.{Refusal}
 use Rattle.px_lexer.specs.declared.spelling.Keyword.TheVariants as word
-use Rattle.px_exprs.specs.Terminals.{Terminal, Stands, IsKeyword}
+use Rattle.px_lexer.specs.Terminals.{Terminal, Stands, IsKeyword}
 use Rattle.px_exprs.specs.Grammar.{IsExpr}
 
 -- the tokens from this index to their end are an expression with this tree and this nesting

@@ -1,7 +1,7 @@
 -- The parts of a type as forms of their own, and where they end.
 use Rattle.std.specs.Prelude.{◌≡◌, ◌⊎◌, ℕ, suc, Bool, true, ◌&&◌, List, [], ◌∷◌, codes, Contains, Result, Ok, Err}
 use Rattle.px_tree.specs.declared.typings.BaseType.{BaseType}
-use Rattle.px_exprs.specs.Terminals.{Terminal, IsName}
+use Rattle.px_lexer.specs.Terminals.{Terminal, IsName}
 use Rattle.px_exprs.specs.Typings.{AreNames}
 use Rattle.px_exprs.specs.declared.readings.Read.{Read}
 use Rattle.px_exprs.specs.declared.readings.Unread.{Unread}
@@ -19,6 +19,13 @@ ReadsFlat X S ts from (Ok read) = IsReading (Flat X) S ts from 0 read.tree read.
 ReadsFlat X S ts from (Err (unread.Stuck k)) = IsStuck (Flat X) S ts from 0 k
 ReadsFlat X S ts from (Err (unread.TooDeep k)) = ⊥
 ReadsFlat X S ts from (Err unread.NoMemory) = Unit {0}
+
+-- the same of what needs no memory
+abbrev pub ReadsInPlace : {A : Type 0} → (List Terminal → ℕ → A → ℕ → Type 0) → Stops → List Terminal → ℕ → Result (Read A) Unread → Type 0
+ReadsInPlace X S ts from (Ok read) = IsReading (Flat X) S ts from 0 read.tree read.depth read.to
+ReadsInPlace X S ts from (Err (unread.Stuck k)) = IsStuck (Flat X) S ts from 0 k
+ReadsInPlace X S ts from (Err (unread.TooDeep k)) = ⊥
+ReadsInPlace X S ts from (Err unread.NoMemory) = ⊥
 
 -- no identifier stands here
 abbrev pub NoName : Stops

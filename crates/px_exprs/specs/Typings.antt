@@ -9,7 +9,7 @@ use Rattle.px_tree.specs.declared.typings.Axis.TheVariants as axis
 use Rattle.px_tree.specs.declared.typings.BaseType.{BaseType}
 use Rattle.px_tree.specs.declared.typings.BaseType.TheVariants as base
 use Rattle.px_tree.specs.declared.typings.«Type».{«Type» as Typing}
-use Rattle.px_exprs.specs.Terminals.{Terminal, Stands, IsName, IsOperator, IsAt}
+use Rattle.px_lexer.specs.Terminals.{Terminal, Stands, IsName, IsOperator, IsAt}
 
 -- the words of a base, and what they name; these words are identifiers elsewhere
 unfoldable pub bases : List (List (List ℕ) × BaseType)

@@ -4,7 +4,7 @@ use Rattle.px_lexer.specs.declared.spelling.Operator.{Operator}
 use Rattle.px_lexer.specs.declared.token_list.TokenKind.TheVariants as kind
 use Rattle.px_exprs.specs.declared.readings.Unread.{Unread}
 use Rattle.px_exprs.specs.declared.readings.Unread.TheVariants as unread
-use Rattle.px_exprs.specs.Terminals.{Terminal, Stands, IsOperator, IsName}
+use Rattle.px_lexer.specs.Terminals.{Terminal, Stands, IsOperator, IsName}
 
 -- each of these bytes is ASCII
 abbrev pub are_ascii : List ℕ → Bool

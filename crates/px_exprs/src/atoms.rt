@@ -1,13 +1,13 @@
 //! Atoms: names, literals, displays and `sizeof`.
 
-ghost use Rattle.std.specs.Prelude.{◌≡◌, ◌<◌, ◌≤◌, ◌+◌, ◌∷◌, suc, length, true, false, IfOk, MatchOption, ℕ, List};
+ghost use Rattle.std.specs.Prelude.{◌<◌, ◌+◌, length, IfOk, MatchOption, ℕ, List};
 ghost use Rattle.px_lexer.specs.declared.spelling.Keyword.TheVariants as word;
 ghost use Rattle.px_lexer.specs.declared.spelling.Operator.TheVariants as sign;
 ghost use Rattle.px_lexer.specs.declared.token_list.TokenKind.TheVariants as kind;
-ghost use Rattle.px_exprs.specs.Terminals.{IsKeyword, IsOperator, HasKind};
-ghost use Rattle.px_exprs.specs.Codes.{Past};
+ghost use Rattle.px_lexer.specs.Terminals.{IsKeyword, IsOperator, HasKind, terminals_of};
+ghost use Rattle.px_exprs.specs.Codes.{EndsAtom};
 ghost use Rattle.px_exprs.specs.Grammar.{AreTexts, IsAtom, node};
-ghost use Rattle.px_exprs.specs.Inputs.{IsInput, Nests, terminals_of};
+ghost use Rattle.px_exprs.specs.Inputs.{IsInput, Nests};
 ghost use Rattle.px_exprs.specs.Parts.{IsTupleOf};
 ghost use Rattle.px_exprs.specs.Readings.{Reads};
 
@@ -15,8 +15,9 @@ use crate::grammar::Grammar;
 use crate::nodes::{node, read_node};
 use crate::readings::{Read, Unread, room_within};
 use crate::typings::typing;
-use crate::words::{behind, kind_at, name};
+use crate::words::{behind, name};
 use px_base::{Chars, Sequence};
+use px_lexer::access::kind_at;
 use px_lexer::{Keyword, Operator, TokenKind, Tokens};
 use px_tree::{Expr, ExprForm, Texts};
 use sqlite_items::Items;
@@ -43,7 +44,7 @@ fn texts(alloc: Global, tokens: &Tokens, from: usize) -> Result<(Texts, usize), 
     requires input { IsInput tokens.now }
     requires begins { (content : List ℕ) × HasKind (terminals_of tokens.now) from (kind.Text content) }
     ensures read { IfOk result (λ found. AreTexts (terminals_of tokens.now) from found.0 found.1) }
-    ensures ended { IfOk result (λ found. Past 1 (terminals_of tokens.now) found.1) }
+    ensures ended { IfOk result (λ found. EndsAtom (terminals_of tokens.now) found.1) }
 {
     let mut contents = Sequence::new(alloc);
     let mut to = from;
@@ -61,7 +62,7 @@ fn texts(alloc: Global, tokens: &Tokens, from: usize) -> Result<(Texts, usize), 
 fn sizeof(alloc: Global, tokens: &Tokens, room: usize, from: usize) -> Result<Read<Expr>, Unread>
     requires input { IsInput tokens.now }
     requires begins { IsKeyword (terminals_of tokens.now) from word.Sizeof }
-    ensures { Reads IsAtom (Past 1) (terminals_of tokens.now) from room result }
+    ensures { Reads IsAtom EndsAtom (terminals_of tokens.now) from room result }
 {
     let type_from = behind(tokens, from + 1, Operator::OpenParenthesis)?;
     let room = room_within(room, 0, from + 1)?;
@@ -83,7 +84,7 @@ fn keyword_atom(
 ) -> Result<Read<Expr>, Unread>
     requires input { IsInput tokens.now }
     requires begins { IsKeyword (terminals_of tokens.now) from word }
-    ensures { Reads IsAtom (Past 1) (terminals_of tokens.now) from room result }
+    ensures { Reads IsAtom EndsAtom (terminals_of tokens.now) from room result }
 {
     match word {
         Keyword::True => Ok(read_node(tokens, from, ExprForm::True, 0, from + 1)),
@@ -95,7 +96,7 @@ fn keyword_atom(
 }
 
 /// What parentheses round these elements are: the expression itself where they hold one without a comma, and else a tuple.
-fn parenthesized(tokens: &Tokens, from: usize, mut items: Items<Expr>, has_comma: bool) -> Expr
+fn parenthesize(tokens: &Tokens, from: usize, mut items: Items<Expr>, has_comma: bool) -> Expr
     requires input { IsInput tokens.now }
     requires inside { from < length tokens.now.list }
     ensures { IsTupleOf (terminals_of tokens.now) from items has_comma result }
@@ -118,13 +119,13 @@ impl<F: Fn(Global, &Tokens, usize, usize) -> Result<Read<Expr>, Unread>> Grammar
         requires inside { from < length tokens.now.list }
         requires nests { Nests room (F.pre self.now.nested) (F.post self.now.nested) }
         requires begins { IsOperator (terminals_of tokens.now) from sign.OpenParenthesis }
-        ensures { Reads IsAtom (Past 1) (terminals_of tokens.now) from room result }
+        ensures { Reads IsAtom EndsAtom (terminals_of tokens.now) from room result }
     {
         let room = room_within(room, 0, from)?;
         let found = self.exprs(tokens, room, from + 1, Operator::CloseParenthesis)?;
         let (items, has_comma) = found.tree;
         Ok(Read {
-            tree: parenthesized(tokens, from, items, has_comma),
+            tree: parenthesize(tokens, from, items, has_comma),
             depth: found.depth + 1,
             to: found.to + 1,
         })
@@ -139,7 +140,7 @@ impl<F: Fn(Global, &Tokens, usize, usize) -> Result<Read<Expr>, Unread>> Grammar
         requires inside { from < length tokens.now.list }
         requires nests { Nests room (F.pre self.now.nested) (F.post self.now.nested) }
         requires begins { IsOperator (terminals_of tokens.now) from sign.OpenBracket }
-        ensures { Reads IsAtom (Past 1) (terminals_of tokens.now) from room result }
+        ensures { Reads IsAtom EndsAtom (terminals_of tokens.now) from room result }
     {
         let room = room_within(room, 0, from)?;
         let found = self.exprs(tokens, room, from + 1, Operator::CloseBracket)?;
@@ -156,7 +157,7 @@ impl<F: Fn(Global, &Tokens, usize, usize) -> Result<Read<Expr>, Unread>> Grammar
         requires inside { from < length tokens.now.list }
         requires nests { Nests room (F.pre self.now.nested) (F.post self.now.nested) }
         requires begins { IsOperator (terminals_of tokens.now) from sign.OpenBrace }
-        ensures { Reads IsAtom (Past 1) (terminals_of tokens.now) from room result }
+        ensures { Reads IsAtom EndsAtom (terminals_of tokens.now) from room result }
     {
         let room = room_within(room, 0, from)?;
         let found = self.entries(tokens, room, from + 1)?;
@@ -179,7 +180,7 @@ impl<F: Fn(Global, &Tokens, usize, usize) -> Result<Read<Expr>, Unread>> Grammar
         requires inside { from < length tokens.now.list }
         requires nests { Nests room (F.pre self.now.nested) (F.post self.now.nested) }
         requires begins { IsOperator (terminals_of tokens.now) from operator }
-        ensures { Reads IsAtom (Past 1) (terminals_of tokens.now) from room result }
+        ensures { Reads IsAtom EndsAtom (terminals_of tokens.now) from room result }
     {
         match operator {
             Operator::OpenParenthesis => self.parentheses(tokens, room, from),
@@ -202,7 +203,7 @@ impl<F: Fn(Global, &Tokens, usize, usize) -> Result<Read<Expr>, Unread>> Grammar
         requires input { IsInput tokens.now }
         requires inside { from < length tokens.now.list }
         requires nests { Nests room (F.pre self.now.nested) (F.post self.now.nested) }
-        ensures { Reads IsAtom (Past 1) (terminals_of tokens.now) from room result }
+        ensures { Reads IsAtom EndsAtom (terminals_of tokens.now) from room result }
     {
         let Some(kind) = kind_at(tokens, from) else {
             return Err(Unread::Stuck(from));

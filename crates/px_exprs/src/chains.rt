@@ -1,22 +1,22 @@
 //! Operators and their operands.
 
-ghost use Rattle.std.specs.Prelude.{◌≡◌, ◌<◌, ◌≤◌, ◌+◌, length, ◌∷◌};
+ghost use Rattle.std.specs.Prelude.{◌<◌, ◌+◌, length};
 ghost use Rattle.px_lexer.specs.declared.spelling.Keyword.TheVariants as word;
-ghost use Rattle.px_exprs.specs.Terminals.{IsKeyword};
-ghost use Rattle.px_exprs.specs.Codes.{Past};
-ghost use Rattle.px_exprs.specs.Grammar.{IsExpr, IsOr, AreOrs, IsAnd, AreAnds, IsNot, IsCompare, AreComparisons, IsCompareOp, IsBinary, IsUnary};
-ghost use Rattle.px_exprs.specs.Inputs.{IsInput, Nests, terminals_of};
+ghost use Rattle.px_lexer.specs.Terminals.{IsKeyword, terminals_of};
+ghost use Rattle.px_exprs.specs.Codes.{EndsUnary, EndsBinary, EndsComparison, EndsAnd, EndsOr, EndsExpr};
+ghost use Rattle.px_exprs.specs.Grammar.{IsExpr, IsOr, AreOrs, IsAnd, AreAnds, IsNot, IsCompare, AreComparisons, IsBinary, IsUnary};
+ghost use Rattle.px_exprs.specs.Inputs.{IsInput, Nests};
 ghost use Rattle.px_exprs.specs.Parts.{AreTighter, BeginsComparison, levels_of};
 ghost use Rattle.px_exprs.specs.Readings.{Reads};
 
 use crate::grammar::Grammar;
-use crate::nodes::{choice, joined, node, read_node};
+use crate::nodes::{choice, node, prepend, read_node};
 use crate::operators::{
     BINARY_LEVELS, Level, begins_comparison, binary_operator, compare_operator, unary_operator,
 };
 use crate::readings::{Read, Unread, room_within};
 use crate::typings::typing;
-use crate::words::{is_keyword, is_operator};
+use px_lexer::access::{is_keyword, is_operator};
 use px_lexer::{Keyword, Operator, Tokens};
 use px_tree::{Comparison, Expr, ExprForm, Link, room_for_one};
 use sqlite_items::{Boxed, Items};
@@ -31,7 +31,7 @@ impl<F: Fn(Global, &Tokens, usize, usize) -> Result<Read<Expr>, Unread>> Grammar
         requires input { IsInput tokens.now }
         requires inside { from < length tokens.now.list }
         requires nests { Nests room (F.pre self.now.nested) (F.post self.now.nested) }
-        ensures { Reads IsUnary (Past 12) (terminals_of tokens.now) from room result }
+        ensures { Reads IsUnary EndsUnary (terminals_of tokens.now) from room result }
     {
         if is_operator(tokens, from, Operator::Less) {
             let room = room_within(room, 0, from)?;
@@ -65,7 +65,7 @@ impl<F: Fn(Global, &Tokens, usize, usize) -> Result<Read<Expr>, Unread>> Grammar
         requires inside { from < length tokens.now.list }
         requires nests { Nests room (F.pre self.now.nested) (F.post self.now.nested) }
         requires known { AreTighter (levels_of levels.now) }
-        ensures { Reads (λ ts. IsBinary ts (levels_of levels.now)) (Past (12 + length (levels_of levels.now))) (terminals_of tokens.now) from room result }
+        ensures { Reads (λ ts. IsBinary ts (levels_of levels.now)) (EndsBinary (length (levels_of levels.now))) (terminals_of tokens.now) from room result }
     {
         let [level, tighter @ ..] = levels else {
             return self.unary(tokens, room, from);
@@ -75,7 +75,9 @@ impl<F: Fn(Global, &Tokens, usize, usize) -> Result<Read<Expr>, Unread>> Grammar
         if binary_operator(level, tokens, number).is_none() {
             return Ok(first);
         }
-        let room = room_within(room, first.depth, number)?;
+        let first_depth = first.depth;
+        let first_tree = Boxed::new(self.alloc, first.tree)?;
+        let room = room_within(room, first_depth, number)?;
         let mut links = room_for_one(self.alloc)?;
         let mut depth = 0;
         let mut to = number;
@@ -88,8 +90,8 @@ impl<F: Fn(Global, &Tokens, usize, usize) -> Result<Read<Expr>, Unread>> Grammar
             depth = depth.max(operand.depth);
             to = operand.to;
         }
-        let depth = first.depth.max(depth) + 1;
-        let form = ExprForm::Chain(Boxed::new(self.alloc, first.tree)?, links);
+        let depth = first_depth.max(depth) + 1;
+        let form = ExprForm::Chain(first_tree, links);
         Ok(Read {
             tree: node(tokens, number, from, form),
             depth,
@@ -111,7 +113,7 @@ impl<F: Fn(Global, &Tokens, usize, usize) -> Result<Read<Expr>, Unread>> Grammar
         requires inside { from < length tokens.now.list }
         requires nests { Nests room (F.pre self.now.nested) (F.post self.now.nested) }
         requires begins { BeginsComparison (terminals_of tokens.now) from }
-        ensures { Reads AreComparisons (Past 23) (terminals_of tokens.now) from room result }
+        ensures { Reads AreComparisons EndsComparison (terminals_of tokens.now) from room result }
     {
         let mut found = room_for_one(self.alloc)?;
         let mut depth = 0;
@@ -141,17 +143,19 @@ impl<F: Fn(Global, &Tokens, usize, usize) -> Result<Read<Expr>, Unread>> Grammar
         requires input { IsInput tokens.now }
         requires inside { from < length tokens.now.list }
         requires nests { Nests room (F.pre self.now.nested) (F.post self.now.nested) }
-        ensures { Reads IsCompare (Past 23) (terminals_of tokens.now) from room result }
+        ensures { Reads IsCompare EndsComparison (terminals_of tokens.now) from room result }
     {
         let first = self.binary(tokens, &BINARY_LEVELS, room, from)?;
         let number = first.to;
         if !begins_comparison(tokens, number) {
             return Ok(first);
         }
-        let room = room_within(room, first.depth, number)?;
+        let first_depth = first.depth;
+        let first_tree = Boxed::new(self.alloc, first.tree)?;
+        let room = room_within(room, first_depth, number)?;
         let others = self.comparisons(tokens, room, number)?;
-        let depth = first.depth.max(others.depth) + 1;
-        let form = ExprForm::Compare(Boxed::new(self.alloc, first.tree)?, others.tree);
+        let depth = first_depth.max(others.depth) + 1;
+        let form = ExprForm::Compare(first_tree, others.tree);
         Ok(Read {
             tree: node(tokens, number, from, form),
             depth,
@@ -167,7 +171,7 @@ impl<F: Fn(Global, &Tokens, usize, usize) -> Result<Read<Expr>, Unread>> Grammar
         requires input { IsInput tokens.now }
         requires inside { from < length tokens.now.list }
         requires nests { Nests room (F.pre self.now.nested) (F.post self.now.nested) }
-        ensures { Reads IsNot (Past 23) (terminals_of tokens.now) from room result }
+        ensures { Reads IsNot EndsComparison (terminals_of tokens.now) from room result }
     {
         if !is_keyword(tokens, from, Keyword::Not) {
             return self.comparison(tokens, room, from);
@@ -187,7 +191,7 @@ impl<F: Fn(Global, &Tokens, usize, usize) -> Result<Read<Expr>, Unread>> Grammar
         requires inside { from < length tokens.now.list }
         requires nests { Nests room (F.pre self.now.nested) (F.post self.now.nested) }
         requires begins { IsKeyword (terminals_of tokens.now) from word.And }
-        ensures { Reads AreAnds (Past 24) (terminals_of tokens.now) from room result }
+        ensures { Reads AreAnds EndsAnd (terminals_of tokens.now) from room result }
     {
         let mut operands = Items::new(self.alloc);
         let mut depth = 0;
@@ -213,17 +217,19 @@ impl<F: Fn(Global, &Tokens, usize, usize) -> Result<Read<Expr>, Unread>> Grammar
         requires input { IsInput tokens.now }
         requires inside { from < length tokens.now.list }
         requires nests { Nests room (F.pre self.now.nested) (F.post self.now.nested) }
-        ensures { Reads IsAnd (Past 24) (terminals_of tokens.now) from room result }
+        ensures { Reads IsAnd EndsAnd (terminals_of tokens.now) from room result }
     {
         let first = self.inversion(tokens, room, from)?;
         let number = first.to;
         if !is_keyword(tokens, number, Keyword::And) {
             return Ok(first);
         }
-        let room = room_within(room, first.depth, number)?;
+        let first_depth = first.depth;
+        let first_tree = Boxed::new(self.alloc, first.tree)?;
+        let room = room_within(room, first_depth, number)?;
         let others = self.ands(tokens, room, number)?;
-        let depth = first.depth.max(others.depth) + 1;
-        let form = ExprForm::And(joined(self.alloc, first.tree, others.tree)?);
+        let depth = first_depth.max(others.depth) + 1;
+        let form = ExprForm::And(prepend(self.alloc, first_tree, others.tree)?);
         Ok(Read {
             tree: node(tokens, number, from, form),
             depth,
@@ -240,7 +246,7 @@ impl<F: Fn(Global, &Tokens, usize, usize) -> Result<Read<Expr>, Unread>> Grammar
         requires inside { from < length tokens.now.list }
         requires nests { Nests room (F.pre self.now.nested) (F.post self.now.nested) }
         requires begins { IsKeyword (terminals_of tokens.now) from word.Or }
-        ensures { Reads AreOrs (Past 25) (terminals_of tokens.now) from room result }
+        ensures { Reads AreOrs EndsOr (terminals_of tokens.now) from room result }
     {
         let mut operands = Items::new(self.alloc);
         let mut depth = 0;
@@ -266,17 +272,19 @@ impl<F: Fn(Global, &Tokens, usize, usize) -> Result<Read<Expr>, Unread>> Grammar
         requires input { IsInput tokens.now }
         requires inside { from < length tokens.now.list }
         requires nests { Nests room (F.pre self.now.nested) (F.post self.now.nested) }
-        ensures { Reads IsOr (Past 25) (terminals_of tokens.now) from room result }
+        ensures { Reads IsOr EndsOr (terminals_of tokens.now) from room result }
     {
         let first = self.conjunction(tokens, room, from)?;
         let number = first.to;
         if !is_keyword(tokens, number, Keyword::Or) {
             return Ok(first);
         }
-        let room = room_within(room, first.depth, number)?;
+        let first_depth = first.depth;
+        let first_tree = Boxed::new(self.alloc, first.tree)?;
+        let room = room_within(room, first_depth, number)?;
         let others = self.ors(tokens, room, number)?;
-        let depth = first.depth.max(others.depth) + 1;
-        let form = ExprForm::Or(joined(self.alloc, first.tree, others.tree)?);
+        let depth = first_depth.max(others.depth) + 1;
+        let form = ExprForm::Or(prepend(self.alloc, first_tree, others.tree)?);
         Ok(Read {
             tree: node(tokens, number, from, form),
             depth,
@@ -297,21 +305,25 @@ impl<F: Fn(Global, &Tokens, usize, usize) -> Result<Read<Expr>, Unread>> Grammar
         requires input { IsInput tokens.now }
         requires inside { from < length tokens.now.list }
         requires nests { Nests room (F.pre self.now.nested) (F.post self.now.nested) }
-        ensures { Reads IsExpr (Past 26) (terminals_of tokens.now) from room result }
+        ensures { Reads IsExpr EndsExpr (terminals_of tokens.now) from room result }
     {
         let value = self.disjunction(tokens, room, from)?;
         let number = value.to;
         if !is_keyword(tokens, number, Keyword::If) {
             return Ok(value);
         }
-        let room = room_within(room, value.depth, number)?;
+        let value_depth = value.depth;
+        let value_tree = Boxed::new(self.alloc, value.tree)?;
+        let room = room_within(room, value_depth, number)?;
         let test = self.disjunction(tokens, room, number + 1)?;
-        if !is_keyword(tokens, test.to, Keyword::Else) {
-            return Err(Unread::Stuck(test.to));
+        let (test_depth, test_to) = (test.depth, test.to);
+        let test_tree = Boxed::new(self.alloc, test.tree)?;
+        if !is_keyword(tokens, test_to, Keyword::Else) {
+            return Err(Unread::Stuck(test_to));
         }
-        let otherwise = self.conditional(tokens, room, test.to + 1)?;
-        let depth = value.depth.max(test.depth.max(otherwise.depth)) + 1;
-        let form = choice(self.alloc, value.tree, test.tree, otherwise.tree)?;
+        let otherwise = self.conditional(tokens, room, test_to + 1)?;
+        let depth = value_depth.max(test_depth.max(otherwise.depth)) + 1;
+        let form = choice(self.alloc, value_tree, test_tree, otherwise.tree)?;
         Ok(Read {
             tree: node(tokens, number, from, form),
             depth,

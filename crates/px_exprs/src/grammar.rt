@@ -1,9 +1,10 @@
 //! The functions that read operands and elements take the reader of expressions as a parameter, so that each is proved by itself.
 
 ghost use Rattle.std.specs.Prelude.{◌<◌, length};
-ghost use Rattle.px_exprs.specs.Codes.{Past};
+ghost use Rattle.px_exprs.specs.Codes.{EndsUnary, EndsExpr};
 ghost use Rattle.px_exprs.specs.Grammar.{IsExpr, IsPrimary};
-ghost use Rattle.px_exprs.specs.Inputs.{IsInput, terminals_of};
+ghost use Rattle.px_exprs.specs.Inputs.{IsInput};
+ghost use Rattle.px_lexer.specs.Terminals.{terminals_of};
 ghost use Rattle.px_exprs.specs.Readings.{Reads};
 
 use crate::readings::{Read, Unread};
@@ -28,7 +29,7 @@ pub(crate) struct Grammar<F> {
 pub fn expr(alloc: Global, tokens: &Tokens, room: usize, from: usize) -> Result<Read<Expr>, Unread>
     requires input { IsInput tokens.now }
     requires inside { from < length tokens.now.list }
-    ensures { Reads IsExpr (Past 26) (terminals_of tokens.now) from room result }
+    ensures { Reads IsExpr EndsExpr (terminals_of tokens.now) from room result }
 {
     Grammar {
         alloc,
@@ -49,7 +50,7 @@ pub fn primary(
 ) -> Result<Read<Expr>, Unread>
     requires input { IsInput tokens.now }
     requires inside { from < length tokens.now.list }
-    ensures { Reads IsPrimary (Past 12) (terminals_of tokens.now) from room result }
+    ensures { Reads IsPrimary EndsUnary (terminals_of tokens.now) from room result }
 {
     Grammar {
         alloc,

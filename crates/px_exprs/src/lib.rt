@@ -10,8 +10,6 @@ pub mod nodes;
 pub mod operators;
 pub mod reader;
 pub mod readings;
-#[cfg(test)]
-mod tests;
 mod trailers;
 pub mod typings;
 pub mod words;

@@ -1,20 +1,22 @@
 //! Elements between brackets, with commas between them.
 
-ghost use Rattle.std.specs.Prelude.{◌<◌, ◌≤◌, suc, length, true};
+ghost use Rattle.std.specs.Prelude.{◌<◌, suc, length, true};
 ghost use Rattle.px_lexer.specs.declared.spelling.Operator.TheVariants as sign;
-ghost use Rattle.px_exprs.specs.Codes.{sign_code};
+ghost use Rattle.px_exprs.specs.Codes.{IsClosing};
 ghost use Rattle.px_exprs.specs.Grammar.{IsExpr, AreExprs, AreEntries};
-ghost use Rattle.px_exprs.specs.Inputs.{IsInput, Nests, terminals_of};
+ghost use Rattle.px_exprs.specs.Inputs.{IsInput, Nests};
+ghost use Rattle.px_lexer.specs.Terminals.{terminals_of};
 ghost use Rattle.px_exprs.specs.Lists.{Listed};
 ghost use Rattle.px_exprs.specs.Parts.{IsEntry};
 ghost use Rattle.px_exprs.specs.Readings.{Reads, At, EndsElement};
 
 use crate::grammar::Grammar;
-use crate::readings::{Read, Unread};
-use crate::words::{behind, ends_element, is_operator};
+use crate::readings::{Read, Unread, keep_if};
+use crate::words::{behind, ends_element};
+use px_lexer::access::is_operator;
 use px_lexer::{Operator, Tokens};
 use px_tree::{Entry, Expr};
-use sqlite_items::Items;
+use sqlite_items::{Boxed, Items};
 use std::alloc::Global;
 
 /// Elements, and whether a comma stands behind the last.
@@ -35,15 +37,12 @@ impl<F: Fn(Global, &Tokens, usize, usize) -> Result<Read<Expr>, Unread>> Grammar
         requires input { IsInput tokens.now }
         requires inside { from < length tokens.now.list }
         requires nests { Nests (suc room) (F.pre self.now.nested) (F.post self.now.nested) }
-        requires closes { (28 ≤ sign_code closing) × (sign_code closing ≤ 30) }
+        requires closes { IsClosing closing }
         ensures { Reads IsExpr (EndsElement closing) (terminals_of tokens.now) from room result }
     {
         let found = (self.nested)(self.alloc, tokens, room, from)?;
-        if ends_element(tokens, found.to, closing) {
-            Ok(found)
-        } else {
-            Err(Unread::Stuck(found.to))
-        }
+        let may_end = ends_element(tokens, found.to, closing);
+        keep_if(found, may_end)
     }
 
     /// The expressions from an index on, which stand before this closing bracket.
@@ -60,7 +59,7 @@ impl<F: Fn(Global, &Tokens, usize, usize) -> Result<Read<Expr>, Unread>> Grammar
         requires input { IsInput tokens.now }
         requires inside { from < length tokens.now.list }
         requires nests { Nests (suc room) (F.pre self.now.nested) (F.post self.now.nested) }
-        requires closes { (28 ≤ sign_code closing) × (sign_code closing ≤ 30) }
+        requires closes { IsClosing closing }
         ensures { Reads (Listed AreExprs true) (At closing) (terminals_of tokens.now) from room result }
     {
         let mut items = Items::new(self.alloc);
@@ -97,14 +96,16 @@ impl<F: Fn(Global, &Tokens, usize, usize) -> Result<Read<Expr>, Unread>> Grammar
         ensures { Reads IsEntry (EndsElement sign.CloseBrace) (terminals_of tokens.now) from room result }
     {
         let key = (self.nested)(self.alloc, tokens, room, from)?;
-        let value_from = behind(tokens, key.to, Operator::Colon)?;
+        let (key_depth, key_to) = (key.depth, key.to);
+        let key_tree = Boxed::new(self.alloc, key.tree)?;
+        let value_from = behind(tokens, key_to, Operator::Colon)?;
         let value = self.element(tokens, room, value_from, Operator::CloseBrace)?;
         Ok(Read {
             tree: Entry {
-                key: key.tree,
+                key: key_tree.into_inner(),
                 value: value.tree,
             },
-            depth: key.depth.max(value.depth),
+            depth: key_depth.max(value.depth),
             to: value.to,
         })
     }

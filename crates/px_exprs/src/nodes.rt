@@ -1,13 +1,12 @@
 ghost use Rattle.std.specs.Prelude.{◌≡◌, ◌<◌, ◌^◌, ◌∷◌, length, IfOk};
 ghost use Rattle.px_base.specs.declared.refusals.Span.{Span};
 ghost use Rattle.px_tree.specs.declared.expressions.ExprForm.TheVariants as forms;
-ghost use Rattle.px_exprs.specs.Terminals.{IsAt};
+ghost use Rattle.px_lexer.specs.Terminals.{IsAt, terminals_of};
 ghost use Rattle.px_exprs.specs.Grammar.{node as node_of};
-ghost use Rattle.px_exprs.specs.Inputs.{terminals_of};
 
 use crate::readings::Read;
-use crate::words::place;
 use px_lexer::Tokens;
+use px_lexer::access::place;
 use px_tree::{Expr, ExprForm};
 use sqlite_items::{Boxed, Items};
 use std::alloc::{AllocError, Global};
@@ -50,14 +49,12 @@ pub fn read_node(
 /// `AllocError` where there is no memory for it.
 pub fn choice(
     alloc: Global,
-    value: Expr,
-    test: Expr,
+    value: Boxed<Expr>,
+    test: Boxed<Expr>,
     otherwise: Expr,
 ) -> Result<ExprForm, AllocError>
     ensures { IfOk result (λ made. made ≡ forms.Conditional value test otherwise) }
 {
-    let value = Boxed::new(alloc, value)?;
-    let test = Boxed::new(alloc, test)?;
     let otherwise = Boxed::new(alloc, otherwise)?;
     Ok(ExprForm::Conditional(value, test, otherwise))
 }
@@ -66,11 +63,15 @@ pub fn choice(
 ///
 /// # Errors
 /// `AllocError` where there is no memory for them.
-pub fn joined(alloc: Global, first: Expr, others: Items<Expr>) -> Result<Items<Expr>, AllocError>
+pub fn prepend(
+    alloc: Global,
+    first: Boxed<Expr>,
+    others: Items<Expr>,
+) -> Result<Items<Expr>, AllocError>
     ensures { IfOk result (λ all. all ≡ first ∷ others) }
 {
     let mut all = Items::new(alloc);
-    all.push(first)?;
+    all.push(first.into_inner())?;
     all.append(others)?;
     Ok(all)
 }

@@ -1,17 +1,17 @@
-ghost use Rattle.std.specs.Prelude.{◌≡◌, suc, ◌<◌, length, IsTrue, IsFalse, IfOk, IfErr, MatchOption};
+ghost use Rattle.std.specs.Prelude.{◌≡◌, suc, ◌<◌, length, IsTrue, IfOk, IfErr, MatchOption, ◌↔◌};
 ghost use Rattle.px_lexer.specs.declared.spelling.Keyword.TheVariants as word;
 ghost use Rattle.px_tree.specs.declared.expressions.CompareOp.{CompareOp};
 ghost use Rattle.px_tree.specs.declared.expressions.CompareOp.TheVariants as compare;
 ghost use Rattle.px_base.specs.declared.c_types.BinOp.{BinOp};
 ghost use Rattle.px_base.specs.declared.c_types.UnOp.{UnOp};
-ghost use Rattle.px_exprs.specs.Terminals.{IsKeyword};
+ghost use Rattle.px_lexer.specs.Terminals.{IsKeyword, terminals_of};
 ghost use Rattle.px_exprs.specs.Grammar.{IsOf, IsCompareOp, unary_operators};
-ghost use Rattle.px_exprs.specs.Inputs.{IsInput, terminals_of};
+ghost use Rattle.px_exprs.specs.Inputs.{IsInput};
 ghost use Rattle.px_exprs.specs.Parts.{BeginsComparison, IsNotBehind};
 
 use crate::readings::Unread;
-use crate::words::{is_keyword, keyword_at, operator_at};
 use px_base::{BinOp, UnOp};
+use px_lexer::access::{is_keyword, keyword_at, operator_at};
 use px_lexer::{Keyword, Operator, Tokens};
 use px_tree::CompareOp;
 
@@ -73,6 +73,7 @@ pub(crate) fn binary_operator(level: Level, tokens: &Tokens, at: usize) -> Optio
 }
 
 /// The unary operator at an index.
+#[tactic(auto, unfolding(crate::specs::Grammar::unary_operators))]
 pub(crate) fn unary_operator(tokens: &Tokens, at: usize) -> Option<UnOp>
     ensures { MatchOption result ((meant : UnOp) → IsOf unary_operators (terminals_of tokens.now) at meant → ⊥) (IsOf unary_operators (terminals_of tokens.now) at) }
 {
@@ -81,8 +82,7 @@ pub(crate) fn unary_operator(tokens: &Tokens, at: usize) -> Option<UnOp>
 
 /// Whether the token at an index, which stands behind an operand, begins a comparison.
 pub(crate) fn begins_comparison(tokens: &Tokens, at: usize) -> bool
-    ensures holds { IsTrue result → BeginsComparison (terminals_of tokens.now) at }
-    ensures fails { IsFalse result → BeginsComparison (terminals_of tokens.now) at → ⊥ }
+    ensures { IsTrue result ↔ (BeginsComparison (terminals_of tokens.now) at) }
 {
     is_keyword(tokens, at, Keyword::In)
         || is_keyword(tokens, at, Keyword::Not)

@@ -3,14 +3,14 @@ ghost use Rattle.px_base.specs.declared.refusals.Trouble.TheVariants.{Refused};
 ghost use Rattle.px_base.specs.declared.refusals.Refusal.{Refusal};
 ghost use Rattle.px_base.specs.Troubles.{IfRefused};
 ghost use Rattle.px_lexer.specs.Tokens.{IsTokens};
-ghost use Rattle.px_exprs.specs.Inputs.{terminals_of};
+ghost use Rattle.px_lexer.specs.Terminals.{terminals_of};
 ghost use Rattle.px_exprs.specs.Runs.{nesting_limit, IsRead, IsRefusalAt, IsExpressionRefused};
 
 use crate::grammar::expr;
 use crate::readings::Unread;
-use crate::words::place;
 use px_base::{Refusal, Trouble};
 use px_lexer::Tokens;
+use px_lexer::access::place;
 use px_tree::Expr;
 use std::alloc::Global;
 
@@ -18,7 +18,7 @@ use std::alloc::Global;
 const NESTING_LIMIT: usize = 64;
 
 /// The refusal with this number at the token with this index.
-fn refused(tokens: &Tokens, number: u8, at: usize) -> Trouble
+fn refuse(tokens: &Tokens, number: u8, at: usize) -> Trouble
     requires { at < length tokens.now.list }
     ensures { (refusal : Refusal) × (result ≡ Refused refusal) × IsRefusalAt (terminals_of tokens.now) number at refusal }
 {
@@ -64,8 +64,8 @@ pub fn expression_within(
 {
     match expr(alloc, tokens, limit, from) {
         Ok(read) => Ok((read.tree, read.to)),
-        Err(Unread::Stuck(at)) => Err(refused(tokens, 5, at)),
-        Err(Unread::TooDeep(at)) => Err(refused(tokens, 6, at)),
+        Err(Unread::Stuck(at)) => Err(refuse(tokens, 5, at)),
+        Err(Unread::TooDeep(at)) => Err(refuse(tokens, 6, at)),
         Err(Unread::NoMemory) => Err(Trouble::NoMemory),
     }
 }

@@ -1,10 +1,10 @@
-ghost use Rattle.std.specs.Prelude.{◌≡◌, suc, ◌<◌, ◌≤◌, MatchResult};
-ghost use Rattle.px_exprs.specs.Words.{IsTooDeepAt};
+ghost use Rattle.std.specs.Prelude.{◌≡◌, suc, ◌<◌, ◌≤◌, IsTrue, IsFalse, MatchResult};
+ghost use Rattle.px_exprs.specs.Words.{IsStuckAt, IsTooDeepAt};
 
 use std::alloc::AllocError;
 
 /// What was read: its tree, the nesting of its tokens, and the index of the token behind it.
-#[derive(Debug, Drop)]
+#[derive(Drop)]
 pub struct Read<T> {
     pub tree: T,
     pub depth: usize,
@@ -12,7 +12,7 @@ pub struct Read<T> {
 }
 
 /// Why a form wasn't read. The number is the index of a token.
-#[derive(Clone, Copy, Debug, PartialEq, Eq)]
+#[derive(Clone, Copy)]
 pub enum Unread {
     /// Some tokens of the form begin with those before this one, and none with this one too.
     Stuck(usize),
@@ -43,5 +43,19 @@ pub fn room_within(room: usize, depth: usize, at: usize) -> Result<usize, Unread
         Ok(room - 1)
     } else {
         Err(Unread::TooDeep(at))
+    }
+}
+
+/// What was read, where it may end.
+///
+/// # Errors
+/// `Stuck` behind it where it may not.
+pub(crate) fn keep_if<T: Drop>(read: Read<T>, may_end: bool) -> Result<Read<T>, Unread>
+    ensures { MatchResult result (λ kept. IsTrue may_end × (kept ≡ read)) (λ unread. IsFalse may_end × IsStuckAt read.to unread) }
+{
+    if may_end {
+        Ok(read)
+    } else {
+        Err(Unread::Stuck(read.to))
     }
 }

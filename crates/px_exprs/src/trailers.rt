@@ -1,11 +1,11 @@
 //! What stands behind an atom: names, calls and subscripts.
 
-ghost use Rattle.std.specs.Prelude.{◌≡◌, ◌<◌, ◌≤◌, ◌⊎◌, suc, length, true, false, IsTrue, IsFalse, IfOk};
+ghost use Rattle.std.specs.Prelude.{◌<◌, ◌≤◌, suc, length, true, false, IsTrue, ◌↔◌};
 ghost use Rattle.px_lexer.specs.declared.spelling.Operator.TheVariants as sign;
-ghost use Rattle.px_exprs.specs.Terminals.{IsOperator};
-ghost use Rattle.px_exprs.specs.Codes.{Past, sign_code};
+ghost use Rattle.px_lexer.specs.Terminals.{IsOperator, terminals_of};
+ghost use Rattle.px_exprs.specs.Codes.{EndsAtom, EndsUnary};
 ghost use Rattle.px_exprs.specs.Grammar.{IsPrimary, AreTrailers, IsTrailer, AreArguments, IsArgument, AreItems, IsItem, MaybeExpr};
-ghost use Rattle.px_exprs.specs.Inputs.{IsInput, Nests, terminals_of};
+ghost use Rattle.px_exprs.specs.Inputs.{IsInput, Nests};
 ghost use Rattle.px_exprs.specs.Lists.{Listed};
 ghost use Rattle.px_exprs.specs.Parts.{BeginsTrailer};
 ghost use Rattle.px_exprs.specs.Readings.{Reads, At, EndsElement, EndsBound};
@@ -14,8 +14,9 @@ use crate::grammar::Grammar;
 use crate::lists::Listed;
 use crate::nodes::node;
 use crate::readings::{Read, Unread, room_within};
-use crate::words::{begins_expr, ends_element, is_name, is_operator, name, operator_at};
+use crate::words::{begins_expr, ends_element, name};
 use px_base::Chars;
+use px_lexer::access::{is_name, is_operator, operator_at};
 use px_lexer::{Operator, Tokens};
 use px_tree::{Argument, Expr, ExprForm, Item, Trailer, room_for_one};
 use sqlite_items::{Boxed, Items};
@@ -23,8 +24,7 @@ use std::alloc::{AllocError, Global};
 
 /// Whether a trailer begins with the token at an index.
 fn begins_trailer(tokens: &Tokens, at: usize) -> bool
-    ensures holds { IsTrue result → BeginsTrailer (terminals_of tokens.now) at }
-    ensures fails { IsFalse result → BeginsTrailer (terminals_of tokens.now) at → ⊥ }
+    ensures { IsTrue result ↔ (BeginsTrailer (terminals_of tokens.now) at) }
 {
     match operator_at(tokens, at) {
         Some(Operator::Point) => true,
@@ -46,7 +46,7 @@ fn attribute(
 ) -> Result<Read<Trailer>, Unread>
     requires input { IsInput tokens.now }
     requires begins { IsOperator (terminals_of tokens.now) from sign.Point }
-    ensures { Reads IsTrailer (Past 1) (terminals_of tokens.now) from room result }
+    ensures { Reads IsTrailer EndsAtom (terminals_of tokens.now) from room result }
 {
     let found = name(alloc, tokens, from + 1)?;
     Ok(Read {
@@ -56,23 +56,9 @@ fn attribute(
     })
 }
 
-/// A bound of a slice in memory of its own.
-///
-/// # Errors
-/// `AllocError` where there is no memory for it.
-fn boxed(alloc: Global, bound: Option<Expr>) -> Result<Option<Boxed<Expr>>, AllocError>
-    ensures { IfOk result (λ found. found ≡ bound) }
-{
-    match bound {
-        Some(found) => Ok(Some(Boxed::new(alloc, found)?)),
-        None => Ok(None),
-    }
-}
-
 /// Whether a colon, a comma or the closing bracket of a subscript stands at an index.
 fn ends_bound(tokens: &Tokens, at: usize) -> bool
-    ensures holds { IsTrue result → EndsBound (terminals_of tokens.now) at }
-    ensures fails { IsFalse result → EndsBound (terminals_of tokens.now) at → ⊥ }
+    ensures { IsTrue result ↔ (EndsBound (terminals_of tokens.now) at) }
 {
     is_operator(tokens, at, Operator::Colon) || ends_element(tokens, at, Operator::CloseBracket)
 }
@@ -153,7 +139,12 @@ impl<F: Fn(Global, &Tokens, usize, usize) -> Result<Read<Expr>, Unread>> Grammar
     ///
     /// # Errors
     /// As `expr`; `Stuck` behind it too where neither a colon nor a comma nor the closing bracket stands there.
-    fn bound(&self, tokens: &Tokens, room: usize, from: usize) -> Result<Read<Option<Expr>>, Unread>
+    fn bound(
+        &self,
+        tokens: &Tokens,
+        room: usize,
+        from: usize,
+    ) -> Result<Read<Option<Boxed<Expr>>>, Unread>
         requires input { IsInput tokens.now }
         requires inside { from < length tokens.now.list }
         requires nests { Nests (suc room) (F.pre self.now.nested) (F.post self.now.nested) }
@@ -170,13 +161,15 @@ impl<F: Fn(Global, &Tokens, usize, usize) -> Result<Read<Expr>, Unread>> Grammar
             });
         }
         let found = (self.nested)(self.alloc, tokens, room, from)?;
-        if !ends_bound(tokens, found.to) {
-            return Err(Unread::Stuck(found.to));
+        let (depth, to) = (found.depth, found.to);
+        let tree = Boxed::new(self.alloc, found.tree)?;
+        if !ends_bound(tokens, to) {
+            return Err(Unread::Stuck(to));
         }
         Ok(Read {
-            tree: Some(found.tree),
-            depth: found.depth,
-            to: found.to,
+            tree: Some(tree),
+            depth,
+            to,
         })
     }
 
@@ -189,7 +182,7 @@ impl<F: Fn(Global, &Tokens, usize, usize) -> Result<Read<Expr>, Unread>> Grammar
         tokens: &Tokens,
         room: usize,
         from: usize,
-        first: Read<Option<Expr>>,
+        first: Read<Option<Boxed<Expr>>>,
     ) -> Result<Read<Item>, Unread>
         requires input { IsInput tokens.now }
         requires inside { from < length tokens.now.list }
@@ -201,11 +194,9 @@ impl<F: Fn(Global, &Tokens, usize, usize) -> Result<Read<Expr>, Unread>> Grammar
         ensures { Reads IsItem (EndsElement sign.CloseBracket) (terminals_of tokens.now) from room result }
     {
         let second = self.bound(tokens, room, first.to + 1)?;
-        let from_bound = boxed(self.alloc, first.tree)?;
-        let to_bound = boxed(self.alloc, second.tree)?;
         if !is_operator(tokens, second.to, Operator::Colon) {
             return Ok(Read {
-                tree: Item::Slice(from_bound, to_bound, None),
+                tree: Item::Slice(first.tree, second.tree, None),
                 depth: first.depth.max(second.depth),
                 to: second.to,
             });
@@ -214,9 +205,8 @@ impl<F: Fn(Global, &Tokens, usize, usize) -> Result<Read<Expr>, Unread>> Grammar
         if is_operator(tokens, third.to, Operator::Colon) {
             return Err(Unread::Stuck(third.to));
         }
-        let step = boxed(self.alloc, third.tree)?;
         Ok(Read {
-            tree: Item::Slice(from_bound, to_bound, step),
+            tree: Item::Slice(first.tree, second.tree, third.tree),
             depth: first.depth.max(second.depth.max(third.depth)),
             to: third.to,
         })
@@ -249,7 +239,7 @@ impl<F: Fn(Global, &Tokens, usize, usize) -> Result<Read<Expr>, Unread>> Grammar
         let Read { tree, depth, to } = first;
         match tree {
             Some(index) => Ok(Read {
-                tree: Item::Index(index),
+                tree: Item::Index(index.into_inner()),
                 depth,
                 to,
             }),
@@ -298,7 +288,7 @@ impl<F: Fn(Global, &Tokens, usize, usize) -> Result<Read<Expr>, Unread>> Grammar
         requires input { IsInput tokens.now }
         requires inside { from < length tokens.now.list }
         requires nests { Nests room (F.pre self.now.nested) (F.post self.now.nested) }
-        ensures { Reads IsTrailer (Past 1) (terminals_of tokens.now) from room result }
+        ensures { Reads IsTrailer EndsAtom (terminals_of tokens.now) from room result }
     {
         let Some(sign) = operator_at(tokens, from) else {
             return Err(Unread::Stuck(from));
@@ -342,7 +332,7 @@ impl<F: Fn(Global, &Tokens, usize, usize) -> Result<Read<Expr>, Unread>> Grammar
         requires inside { from < length tokens.now.list }
         requires nests { Nests room (F.pre self.now.nested) (F.post self.now.nested) }
         requires begins { BeginsTrailer (terminals_of tokens.now) from }
-        ensures { Reads AreTrailers (Past 12) (terminals_of tokens.now) from room result }
+        ensures { Reads AreTrailers EndsUnary (terminals_of tokens.now) from room result }
     {
         let mut found = room_for_one(self.alloc)?;
         let mut depth: usize = 0;
@@ -373,16 +363,18 @@ impl<F: Fn(Global, &Tokens, usize, usize) -> Result<Read<Expr>, Unread>> Grammar
         requires input { IsInput tokens.now }
         requires inside { from < length tokens.now.list }
         requires nests { Nests room (F.pre self.now.nested) (F.post self.now.nested) }
-        ensures { Reads IsPrimary (Past 12) (terminals_of tokens.now) from room result }
+        ensures { Reads IsPrimary EndsUnary (terminals_of tokens.now) from room result }
     {
         let first = self.atom(tokens, room, from)?;
         let number = first.to;
         if !begins_trailer(tokens, number) {
             return Ok(first);
         }
+        let first_depth = first.depth;
+        let first_tree = Boxed::new(self.alloc, first.tree)?;
         let others = self.trailers(tokens, room, number)?;
-        let depth = first.depth.max(others.depth);
-        let form = ExprForm::Row(Boxed::new(self.alloc, first.tree)?, others.tree);
+        let depth = first_depth.max(others.depth);
+        let form = ExprForm::Row(first_tree, others.tree);
         Ok(Read {
             tree: node(tokens, number, from, form),
             depth,

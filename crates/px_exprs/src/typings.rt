@@ -1,17 +1,18 @@
-ghost use Rattle.std.specs.Prelude.{◌≡◌, ℕ, suc, ◌+◌, ◌≤◌, ◌<◌, List, map, length, Contains, IsTrue, IsFalse, MatchOption, MatchResult};
+ghost use Rattle.std.specs.Prelude.{◌≡◌, ◌+◌, ◌<◌, List, map, length, IsTrue, MatchOption, MatchResult, ◌↔◌};
 ghost use Rattle.px_lexer.specs.declared.spelling.Operator.TheVariants as sign;
 ghost use Rattle.px_tree.specs.declared.typings.BaseType.{BaseType};
-ghost use Rattle.px_exprs.specs.Terminals.{IsName};
+ghost use Rattle.px_lexer.specs.Terminals.{terminals_of};
 ghost use Rattle.px_exprs.specs.Typings.{bases, AreNames, IsBase, IsAxis, AreAxes, HasAxes, IsTyping};
-ghost use Rattle.px_exprs.specs.Codes.{sign_code};
+ghost use Rattle.px_exprs.specs.Codes.{EndsType};
 ghost use Rattle.px_exprs.specs.Readings.{Reads, At, EndsElement};
 ghost use Rattle.px_exprs.specs.Words.{IsStuckAt};
-ghost use Rattle.px_exprs.specs.TypeParts.{ReadsFlat, NoName, IsBaseOf, words_are_ascii, table_is_ascii, IsBehindConst};
-ghost use Rattle.px_exprs.specs.Inputs.{IsInput, terminals_of};
+ghost use Rattle.px_exprs.specs.TypeParts.{ReadsFlat, ReadsInPlace, NoName, IsBaseOf, words_are_ascii, table_is_ascii, IsBehindConst};
+ghost use Rattle.px_exprs.specs.Inputs.{IsInput};
 
 use crate::readings::{Read, Unread, room_within};
-use crate::words::{is_name, is_one, is_operator, is_word, place};
+use crate::words::{is_one, is_word};
 use px_base::{CType, Sequence};
+use px_lexer::access::{is_name, is_operator, place};
 use px_lexer::{Operator, Tokens};
 use px_tree::{Axes, Axis, BaseType, Type};
 use std::alloc::Global;
@@ -67,6 +68,7 @@ const BASES: [Row; 34] = [
 ];
 
 /// The table of the bases.
+#[tactic(auto, unfolding(crate::specs::Typings::bases))]
 fn table() -> &'static [Row]
     ensures { map (λ row. (map (λ word. word.now) row.0.now, row.1)) result.now ≡ bases }
 {
@@ -77,8 +79,7 @@ fn table() -> &'static [Row]
 fn are_words(tokens: &Tokens, from: usize, to: usize, mut words: &[&[u8]]) -> bool
     requires input { IsInput tokens.now }
     requires ascii { IsTrue (words_are_ascii (map (λ word. word.now) words.now)) }
-    ensures holds { IsTrue result → AreNames (terminals_of tokens.now) from (map (λ word. word.now) words.entry.now) to }
-    ensures fails { IsFalse result → AreNames (terminals_of tokens.now) from (map (λ word. word.now) words.entry.now) to → ⊥ }
+    ensures { IsTrue result ↔ (AreNames (terminals_of tokens.now) from (map (λ word. word.now) words.entry.now) to) }
 {
     let mut at = from;
     while let [word, rest @ ..] = words {
@@ -123,7 +124,7 @@ pub fn base_of(tokens: &Tokens, from: usize, to: usize) -> Option<BaseType>
 fn base(tokens: &Tokens, from: usize) -> Result<Read<BaseType>, Unread>
     requires input { IsInput tokens.now }
     requires inside { from < length tokens.now.list }
-    ensures { ReadsFlat IsBase NoName (terminals_of tokens.now) from result }
+    ensures { ReadsInPlace IsBase NoName (terminals_of tokens.now) from result }
 {
     let Some(mut tree) = base_of(tokens, from, from + 1) else {
         return Err(Unread::Stuck(from));
@@ -140,11 +141,11 @@ fn base(tokens: &Tokens, from: usize) -> Result<Read<BaseType>, Unread>
     }
 }
 
-/// An axis that ends before a comma or the closing bracket.
+/// This axis, where a comma or the closing bracket stands behind it.
 ///
 /// # Errors
 /// `Stuck` where neither stands there.
-fn ended(tokens: &Tokens, tree: Axis, to: usize) -> Result<Read<Axis>, Unread>
+fn end_axis(tokens: &Tokens, tree: Axis, to: usize) -> Result<Read<Axis>, Unread>
     ensures { MatchResult result
         (λ read. (read.tree ≡ tree) × (read.depth ≡ 0) × (read.to ≡ to) × EndsElement sign.CloseBracket (terminals_of tokens.now) to)
         (λ unread. IsStuckAt to unread × (EndsElement sign.CloseBracket (terminals_of tokens.now) to → ⊥)) }
@@ -163,18 +164,18 @@ fn ended(tokens: &Tokens, tree: Axis, to: usize) -> Result<Read<Axis>, Unread>
 fn axis(tokens: &Tokens, from: usize) -> Result<Read<Axis>, Unread>
     requires input { IsInput tokens.now }
     requires inside { from < length tokens.now.list }
-    ensures { ReadsFlat IsAxis (EndsElement sign.CloseBracket) (terminals_of tokens.now) from result }
+    ensures { ReadsInPlace IsAxis (EndsElement sign.CloseBracket) (terminals_of tokens.now) from result }
 {
     if !is_operator(tokens, from, Operator::Colon) {
         return Err(Unread::Stuck(from));
     }
     if !is_operator(tokens, from + 1, Operator::Colon) {
-        return ended(tokens, Axis::Strided, from + 1);
+        return end_axis(tokens, Axis::Strided, from + 1);
     }
     if !is_one(tokens, from + 2) {
         return Err(Unread::Stuck(from + 2));
     }
-    ended(tokens, Axis::Contiguous, from + 3)
+    end_axis(tokens, Axis::Contiguous, from + 3)
 }
 
 /// The axes from an index on, before the closing bracket.
@@ -212,7 +213,7 @@ fn view(
 ) -> Result<Read<Axes>, Unread>
     requires input { IsInput tokens.now }
     requires inside { from < length tokens.now.list }
-    requires closes { 11 ≤ sign_code closing }
+    requires closes { EndsType closing }
     ensures { Reads HasAxes (At closing) (terminals_of tokens.now) from room result }
 {
     if is_operator(tokens, from, closing) {
@@ -265,7 +266,7 @@ pub fn typing(
 ) -> Result<Read<Type>, Unread>
     requires input { IsInput tokens.now }
     requires inside { from < length tokens.now.list }
-    requires closes { 11 ≤ sign_code closing }
+    requires closes { EndsType closing }
     ensures { Reads IsTyping (At closing) (terminals_of tokens.now) from room result }
 {
     let base_from = behind_const(tokens, from);

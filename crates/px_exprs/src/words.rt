@@ -1,66 +1,21 @@
-ghost use Rattle.std.specs.Prelude.{◌≡◌, ℕ, List, suc, pos, ◌<◌, ◌≤◌, length, codes, slice_range, Contains, IsTrue, IsFalse, IsUtf8, IfOk, MatchOption, MatchResult};
+ghost use Rattle.std.specs.Prelude.{◌≡◌, ℕ, List, ◌<◌, slice_range, Contains, IsTrue, IsUtf8, IfOk, MatchOption, ◌↔◌};
 ghost use Rattle.std.specs.Str.{chars};
 ghost use Rattle.px_lexer.specs.declared.spelling.Keyword.{Keyword};
 ghost use Rattle.px_lexer.specs.declared.spelling.Operator.{Operator};
 ghost use Rattle.px_lexer.specs.declared.spelling.Operator.TheVariants as sign;
 ghost use Rattle.px_lexer.specs.declared.token_list.TokenKind.{TokenKind};
 ghost use Rattle.px_lexer.specs.declared.token_list.TokenKind.TheVariants as kind;
-ghost use Rattle.px_exprs.specs.Terminals.{Terminal, Stands, HasKind, IsKeyword, IsOperator, IsName, IsAt};
-ghost use Rattle.px_exprs.specs.Inputs.{IsInput, terminals_of};
+ghost use Rattle.px_lexer.specs.Terminals.{IsName, terminals_of};
+ghost use Rattle.px_exprs.specs.Inputs.{IsInput};
 ghost use Rattle.px_exprs.specs.Words.{IsOne, are_ascii, IsNamed, IsBehind};
 ghost use Rattle.px_exprs.specs.Readings.{EndsElement};
 ghost use Rattle.px_exprs.specs.Codes.{code_at, word_code, sign_code, begins_code};
 
 use crate::readings::Unread;
-use px_base::{Chars, Sequence, Span};
+use px_base::{Chars, Sequence};
+use px_lexer::access::{is_operator, kind_at};
 use px_lexer::{Keyword, Operator, Token, TokenKind, Tokens};
 use std::alloc::{AllocError, Global};
-
-/// The kind of the token at an index; none behind the last token.
-pub fn kind_at(tokens: &Tokens, at: usize) -> Option<&TokenKind>
-    ensures { MatchOption result ((k : TokenKind) → HasKind (terminals_of tokens.now) at k → ⊥) (λ k. HasKind (terminals_of tokens.now) at k.now) }
-{
-    match tokens.list.as_slice().get(at) {
-        Some(token) => Some(&token.kind),
-        None => None,
-    }
-}
-
-/// The operator at an index, if one stands there.
-pub fn operator_at(tokens: &Tokens, at: usize) -> Option<Operator>
-    ensures { MatchOption result ((o : Operator) → IsOperator (terminals_of tokens.now) at o → ⊥) (IsOperator (terminals_of tokens.now) at) }
-{
-    match kind_at(tokens, at) {
-        Some(TokenKind::Operator(found)) => Some(*found),
-        _ => None,
-    }
-}
-
-/// The keyword at an index, if one stands there.
-pub fn keyword_at(tokens: &Tokens, at: usize) -> Option<Keyword>
-    ensures { MatchOption result ((k : Keyword) → IsKeyword (terminals_of tokens.now) at k → ⊥) (IsKeyword (terminals_of tokens.now) at) }
-{
-    match kind_at(tokens, at) {
-        Some(TokenKind::Keyword(found)) => Some(*found),
-        _ => None,
-    }
-}
-
-/// Whether this operator stands at an index.
-pub fn is_operator(tokens: &Tokens, at: usize, operator: Operator) -> bool
-    ensures holds { IsTrue result → IsOperator (terminals_of tokens.now) at operator }
-    ensures fails { IsFalse result → IsOperator (terminals_of tokens.now) at operator → ⊥ }
-{
-    operator_at(tokens, at) == Some(operator)
-}
-
-/// Whether this keyword stands at an index.
-pub fn is_keyword(tokens: &Tokens, at: usize, keyword: Keyword) -> bool
-    ensures holds { IsTrue result → IsKeyword (terminals_of tokens.now) at keyword }
-    ensures fails { IsFalse result → IsKeyword (terminals_of tokens.now) at keyword → ⊥ }
-{
-    keyword_at(tokens, at) == Some(keyword)
-}
 
 /// The bytes that a token is spelled with.
 fn spelling<'a>(tokens: &'a Tokens, token: &Token) -> &'a [u8]
@@ -85,23 +40,11 @@ fn name_at(tokens: &Tokens, at: usize) -> Option<&[u8]>
     }
 }
 
-/// Whether an identifier stands at an index.
-pub fn is_name(tokens: &Tokens, at: usize) -> bool
-    ensures holds { IsTrue result → (name : List ℕ) × IsName (terminals_of tokens.now) at name }
-    ensures fails { IsFalse result → (name : List ℕ) → IsName (terminals_of tokens.now) at name → ⊥ }
-{
-    match kind_at(tokens, at) {
-        Some(TokenKind::Name) => true,
-        _ => false,
-    }
-}
-
 /// Whether the identifier with this spelling, which is ASCII, stands at an index.
 pub fn is_word(tokens: &Tokens, at: usize, word: &[u8]) -> bool
     requires input { IsInput tokens.now }
     requires ascii { IsTrue (are_ascii word.now) }
-    ensures holds { IsTrue result → IsName (terminals_of tokens.now) at word.now }
-    ensures fails { IsFalse result → IsName (terminals_of tokens.now) at word.now → ⊥ }
+    ensures { IsTrue result ↔ (IsName (terminals_of tokens.now) at word.now) }
 {
     match name_at(tokens, at) {
         Some(found) => found == word,
@@ -112,8 +55,7 @@ pub fn is_word(tokens: &Tokens, at: usize, word: &[u8]) -> bool
 /// Whether the number that is spelled `1` stands at an index.
 pub fn is_one(tokens: &Tokens, at: usize) -> bool
     requires { IsInput tokens.now }
-    ensures holds { IsTrue result → IsOne (terminals_of tokens.now) at }
-    ensures fails { IsFalse result → IsOne (terminals_of tokens.now) at → ⊥ }
+    ensures { IsTrue result ↔ (IsOne (terminals_of tokens.now) at) }
 {
     match tokens.list.as_slice().get(at) {
         Some(token) => match token.kind {
@@ -167,18 +109,9 @@ pub fn behind(tokens: &Tokens, at: usize, operator: Operator) -> Result<usize, U
 
 /// Whether a comma or this closing bracket stands at an index.
 pub fn ends_element(tokens: &Tokens, at: usize, closing: Operator) -> bool
-    ensures holds { IsTrue result → EndsElement closing (terminals_of tokens.now) at }
-    ensures fails { IsFalse result → EndsElement closing (terminals_of tokens.now) at → ⊥ }
+    ensures { IsTrue result ↔ (EndsElement closing (terminals_of tokens.now) at) }
 {
     is_operator(tokens, at, Operator::Comma) || is_operator(tokens, at, closing)
-}
-
-/// The place of the token at an index.
-pub fn place(tokens: &Tokens, at: usize) -> Span
-    requires { at < length tokens.now.list }
-    ensures { IsAt (terminals_of tokens.now) at result }
-{
-    tokens.list.as_slice()[at].at
 }
 
 /// Whether an expression begins with the token at an index.

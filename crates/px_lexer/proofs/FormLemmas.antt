@@ -14,7 +14,7 @@ use Rattle.px_lexer.proofs.PrefixLemmas.{quote_inside}
 use Rattle.px_lexer.specs.Places.{is_line_break, line_end_len}
 use Rattle.px_lexer.specs.Words.{starts_word, continues_word, word_len}
 use Rattle.px_lexer.specs.Signs.{begins_sign}
-use Rattle.px_lexer.specs.Pieces.{form_of, is_blank, begins_number, is_content, HasLength}
+use Rattle.px_lexer.specs.Pieces.{form_of, is_blank, begins_number, joins_lines, is_content, HasLength}
 use Rattle.px_lexer.specs.Readers.{EndsAt}
 
 -- a piece has one length
@@ -51,11 +51,12 @@ form_by_tests blank line_break join comment text word number sign =
     else (if number then form.Number
     else (if sign then form.Sign else form.Stray)))))))
 
-pub form_of_at : (cs : List ℕ) (at : ℕ) → form_of (drop at cs) ≡ form_by_tests (is_blank (slice_index cs at)) (is_line_break (slice_index cs at)) (slice_index cs at == 92 && is_line_break (slice_index cs (at + 1))) (slice_index cs at == 35) (opens_string (drop at cs)) (starts_word (slice_index cs at)) (begins_number (drop at cs)) (begins_sign (drop at cs))
+pub form_of_at : (cs : List ℕ) (at : ℕ) → form_of (drop at cs) ≡ form_by_tests (is_blank (slice_index cs at)) (is_line_break (slice_index cs at)) (joins_lines (drop at cs)) (slice_index cs at == 35) (opens_string (drop at cs)) (starts_word (slice_index cs at)) (begins_number (drop at cs)) (begins_sign (drop at cs))
 unfolding form_of
 form_of_at cs at =
-    let n : at ≡ at + 0 = omega arith in
-    rw (get_or-drop at cs 0 0, get_or-drop at cs 1 0, ← n)
+    let n : at + 0 ≡ at = omega arith in
+    ap (λ c. form_by_tests (is_blank c) (is_line_break c) (joins_lines (drop at cs)) (c == 35) (opens_string (drop at cs)) (starts_word c) (begins_number (drop at cs)) (begins_sign (drop at cs)))
+    (get_or-drop at cs 0 0 ∙ ap (slice_index cs) n)
 
 word_by_tests : (blank line_break join comment text word number sign : Bool) → blank ≡ false → line_break ≡ false → join ≡ false → comment ≡ false → text ≡ false → word ≡ true → form.Word ≡ form_by_tests blank line_break join comment text word number sign
 word_by_tests blank line_break join comment text word number sign a b c d e f = rw (a, b, c, d, e, f)
@@ -63,10 +64,10 @@ word_by_tests blank line_break join comment text word number sign a b c d e f = 
 number_by_tests : (blank line_break join comment text word number sign : Bool) → blank ≡ false → line_break ≡ false → join ≡ false → comment ≡ false → text ≡ false → word ≡ false → number ≡ true → form.Number ≡ form_by_tests blank line_break join comment text word number sign
 number_by_tests blank line_break join comment text word number sign a b c d e f g = rw (a, b, c, d, e, f, g)
 
-pub is_word : (cs : List ℕ) (at : ℕ) → is_blank (slice_index cs at) ≡ false → is_line_break (slice_index cs at) ≡ false → (slice_index cs at == 92 && is_line_break (slice_index cs (at + 1))) ≡ false → (slice_index cs at == 35) ≡ false → opens_string (drop at cs) ≡ false → starts_word (slice_index cs at) ≡ true → form.Word ≡ form_of (drop at cs)
+pub is_word : (cs : List ℕ) (at : ℕ) → is_blank (slice_index cs at) ≡ false → is_line_break (slice_index cs at) ≡ false → (joins_lines (drop at cs)) ≡ false → (slice_index cs at == 35) ≡ false → opens_string (drop at cs) ≡ false → starts_word (slice_index cs at) ≡ true → form.Word ≡ form_of (drop at cs)
 is_word cs at a b c d e f = word_by_tests _ _ _ _ _ _ _ _ a b c d e f ∙ sym (form_of_at cs at)
 
-pub is_number : (cs : List ℕ) (at : ℕ) → is_blank (slice_index cs at) ≡ false → is_line_break (slice_index cs at) ≡ false → (slice_index cs at == 92 && is_line_break (slice_index cs (at + 1))) ≡ false → (slice_index cs at == 35) ≡ false → opens_string (drop at cs) ≡ false → starts_word (slice_index cs at) ≡ false → begins_number (drop at cs) ≡ true → form.Number ≡ form_of (drop at cs)
+pub is_number : (cs : List ℕ) (at : ℕ) → is_blank (slice_index cs at) ≡ false → is_line_break (slice_index cs at) ≡ false → (joins_lines (drop at cs)) ≡ false → (slice_index cs at == 35) ≡ false → opens_string (drop at cs) ≡ false → starts_word (slice_index cs at) ≡ false → begins_number (drop at cs) ≡ true → form.Number ≡ form_of (drop at cs)
 is_number cs at a b c d e f g = number_by_tests _ _ _ _ _ _ _ _ a b c d e f g ∙ sym (form_of_at cs at)
 
 -- the test of the form itself, and for a stray that a sign begins
@@ -95,13 +96,46 @@ passes false false false false false false false false = refl
 FormPasses : Form → List ℕ → Type 0
 FormPasses found cs =
     let c = slice_index cs 0 in
-    Passes found (is_blank c) (is_line_break c) (c == 92 && is_line_break (slice_index cs 1)) (c == 35) (opens_string cs) (starts_word c) (begins_number cs) (begins_sign cs)
+    Passes found (is_blank c) (is_line_break c) (joins_lines cs) (c == 35) (opens_string cs) (starts_word c) (begins_number cs) (begins_sign cs)
 
 form_passes : (found : Form) (cs : List ℕ) → form_of cs ≡ found → FormPasses found cs
 unfolding form_of FormPasses
 form_passes found cs e =
     let c = slice_index cs 0 in
-    subst (λ f. FormPasses f cs) e (passes (is_blank c) (is_line_break c) (c == 92 && is_line_break (slice_index cs 1)) (c == 35) (opens_string cs) (starts_word c) (begins_number cs) (begins_sign cs))
+    subst (λ f. FormPasses f cs) e (passes (is_blank c) (is_line_break c) (joins_lines cs) (c == 35) (opens_string cs) (starts_word c) (begins_number cs) (begins_sign cs))
+
+-- the tests that come before that of the form fail
+abbrev Fails : Form → Bool → Bool → Bool → Type 0
+Fails form.Word text word number = IsFalse text
+Fails form.Number text word number = IsFalse text × IsFalse word
+Fails form.Sign text word number = IsFalse text × IsFalse word × IsFalse number
+Fails _ text word number = Unit {0}
+
+fails : (blank line_break join comment text word number sign : Bool) → Fails (form_by_tests blank line_break join comment text word number sign) text word number
+fails true line_break join comment text word number sign = tt
+fails false true join comment text word number sign = tt
+fails false false true comment text word number sign = tt
+fails false false false true text word number sign = tt
+fails false false false false true word number sign = tt
+fails false false false false false true number sign = refl
+fails false false false false false false true sign = (refl, refl)
+fails false false false false false false false true = (refl, refl, refl)
+fails false false false false false false false false = tt
+
+form_fails : (found : Form) (cs : List ℕ) → form_of cs ≡ found → Fails found (opens_string cs) (starts_word (slice_index cs 0)) (begins_number cs)
+unfolding form_of
+form_fails found cs e =
+    let c = slice_index cs 0 in
+    subst (λ f. Fails f (opens_string cs) (starts_word c) (begins_number cs)) e (fails (is_blank c) (is_line_break c) (joins_lines cs) (c == 35) (opens_string cs) (starts_word c) (begins_number cs) (begins_sign cs))
+
+pub word_fails : (cs : List ℕ) → form_of cs ≡ form.Word → IsFalse (opens_string cs)
+word_fails cs e = form_fails form.Word cs e
+
+pub number_fails : (cs : List ℕ) → form_of cs ≡ form.Number → IsFalse (opens_string cs) × IsFalse (starts_word (slice_index cs 0))
+number_fails cs e = form_fails form.Number cs e
+
+pub sign_fails : (cs : List ℕ) → form_of cs ≡ form.Sign → IsFalse (opens_string cs) × IsFalse (starts_word (slice_index cs 0)) × IsFalse (begins_number cs)
+sign_fails cs e = form_fails form.Sign cs e
 
 pub text_opens : (cs : List ℕ) → form_of cs ≡ form.Text → IsTrue (opens_string cs)
 unfolding FormPasses

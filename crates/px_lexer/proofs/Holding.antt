@@ -15,8 +15,8 @@ use Rattle.px_lexer.specs.Places.{is_line_break}
 use Rattle.px_lexer.specs.Signs.{is_opening, is_closing}
 use Rattle.px_lexer.specs.Pieces.{Piece, IsPiece, form_of, is_blank, spelling, is_content, is_comment}
 use Rattle.px_lexer.specs.Lines.{Line, has_content, start_of, level_from, level_of, own_level, levels_of, last_level, open_levels, depth_behind, depth_after}
-use Rattle.px_lexer.specs.Tokens.{token_at, changes_at, comment_at, leading_comments}
-use Rattle.px_lexer.specs.Reached.{IsPlace, token_from, changes, levels_behind}
+use Rattle.px_lexer.specs.Tokens.{token_at, indentation_tokens, comment_at, leading_comments}
+use Rattle.px_lexer.specs.Reached.{IsPlace, token_from, level_tokens, levels_behind}
 use Rattle.px_lexer.proofs.FormLemmas.{blank_begins, line_end_breaks, join_begins, comment_begins}
 use Rattle.px_lexer.proofs.LevelLemmas.{open_levels-snoc}
 use Rattle.px_lexer.proofs.Breaks.{start_kept, content_cases, has_content-append}
@@ -133,8 +133,8 @@ levels_of-more cs (l ∷ ls) rest q =
 pub placed_token : (text : List ℕ) (t : TokenKind) (from to : Place) → IsPlace text from → IsPlace text to → token_from t from to ≡ token_at text from.index to.index t
 placed_token text t from to a b = rw (a.line, a.column, a.byte, b.byte) refl
 
-pub placed_changes : (text : List ℕ) (levels : List ℕ) (level : ℕ) (at : Place) → IsPlace text at → changes (last_level levels) (open_levels levels) level at ≡ changes_at text levels level at.index
-placed_changes text levels level at a = rw (placed_token text kind.Indent at at a a, placed_token text kind.Dedent at at a a) refl
+pub placed_level_tokens : (text : List ℕ) (levels : List ℕ) (level : ℕ) (at : Place) → IsPlace text at → level_tokens (last_level levels) (open_levels levels) level at ≡ indentation_tokens text levels level at.index
+placed_level_tokens text levels level at a = rw (placed_token text kind.Indent at at a a, placed_token text kind.Dedent at at a a) refl
 
 abbrev leads : Piece → Bool
 leads p = not (is_content p.form)

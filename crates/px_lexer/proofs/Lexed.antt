@@ -11,7 +11,7 @@ use Rattle.px_lexer.specs.declared.token_list.Token.{Token}
 use Rattle.px_lexer.specs.Characters.{characters}
 use Rattle.px_lexer.specs.Pieces.{Piece, IsPiece, AreBetween, is_content, is_line_end}
 use Rattle.px_lexer.specs.Lines.{Line, IsLine, AreLines, GoesOn, pieces_of, has_content, start_of, level_from, indented_to, level_of, own_level, levels_of, indentation_end, depth_after, Lands, IsIndented}
-use Rattle.px_lexer.specs.Tokens.{IsTokenOf, newline_at, changes_at, level_changes, AreOfLine, AreOfLines}
+use Rattle.px_lexer.specs.Tokens.{IsTokenOf, newline_at, indentation_tokens, tokens_before_line, AreOfLine, AreOfLines}
 use Rattle.px_lexer.specs.Refusals.{BreaksIn, bad_character, bad_word, bad_number, float_literal, literal_too_wide, bad_escape, string_not_ended, IsMisindented, form_feed, tab, no_level}
 use Rattle.px_lexer.specs.Reached.{IsClean, AreOfBegun, AreOfFront, IsLexed}
 use Rattle.px_lexer.proofs.Cuts.{SplitCases, same, shorter, longer, split_cases, between_append}
@@ -127,8 +127,8 @@ indented_from cs levels ps qs e i = record {
 }
 
 -- the changes of level at the start of a line hang on its first piece alone
-changes_kept : (text levels : List ℕ) (ps qs : List Piece) → start_of ps ≡ start_of qs → level_changes text levels ps ≡ level_changes text levels qs
-changes_kept text levels ps qs e = ap (λ start. changes_at text levels (level_from (characters text) start) (indented_to (characters text) start)) e
+before_line_kept : (text levels : List ℕ) (ps qs : List Piece) → start_of ps ≡ start_of qs → tokens_before_line text levels ps ≡ tokens_before_line text levels qs
+before_line_kept text levels ps qs e = ap (λ start. indentation_tokens text levels (level_from (characters text) start) (indented_to (characters text) start)) e
 
 -- A piece that gives nothing
 
@@ -144,7 +144,7 @@ front_gap text levels rest q tokens e f = elim (content_cases (has_content rest)
         indented = indented_from (characters text) levels rest (rest ++ q ∷ []) start b.indented;
         spelled = b.spelled;
         each = subst (λ ps. AllZip (IsTokenOf text) ps b.spelled) (sym (without_gap rest q e)) b.each;
-        all = b.all ∙ ap (λ ts. ts ++ b.spelled) (changes_kept text levels rest (rest ++ q ∷ []) start);
+        all = b.all ∙ ap (λ ts. ts ++ b.spelled) (before_line_kept text levels rest (rest ++ q ∷ []) start);
       })
       )
   | inr none ↦ front_without text levels (rest ++ q ∷ []) tokens (has_content-append rest (q ∷ []) ∙ or_neither _ _ none (or_neither _ _ e refl)) (none_of text levels rest tokens none f)
@@ -219,7 +219,7 @@ with_token ps q e = filter-append (λ (p : Piece). is_content p.form) ps (q ∷ 
 
 -- what a token adds to the tokens of its line: the changes of level where it is the first, and itself
 abbrev pub token_with_changes : List ℕ → List ℕ → List Piece → Piece → Token → List Token
-token_with_changes text levels rest q token = (if has_content rest then [] else level_changes text levels (rest ++ q ∷ [])) ++ token ∷ []
+token_with_changes text levels rest q token = (if has_content rest then [] else tokens_before_line text levels (rest ++ q ∷ [])) ++ token ∷ []
 
 front_token : (text levels : List ℕ) (rest : List Piece) (q : Piece) (token : Token) (tokens : List Token) → is_content q.form ≡ true → IsTokenOf text q token
     → (IsFalse (has_content rest) → IsIndented (characters text) levels (rest ++ q ∷ [])) → AreOfFront text levels rest tokens
@@ -232,16 +232,16 @@ front_token text levels rest q token tokens e t i f = elim (content_cases (has_c
         indented = indented_from (characters text) levels rest (rest ++ q ∷ []) start b.indented;
         spelled = b.spelled ++ token ∷ [];
         each = subst (λ ps. AllZip (IsTokenOf text) ps (b.spelled ++ token ∷ [])) (sym (with_token rest q e)) (zip_more (IsTokenOf text) _ b.spelled q token b.each t);
-        all = ap (λ ts. ts ++ token ∷ []) b.all ∙ append_assoc (level_changes text levels rest) b.spelled (token ∷ []) ∙ ap (λ ts. ts ++ (b.spelled ++ token ∷ [])) (changes_kept text levels rest (rest ++ q ∷ []) start);
+        all = ap (λ ts. ts ++ token ∷ []) b.all ∙ append_assoc (tokens_before_line text levels rest) b.spelled (token ∷ []) ∙ ap (λ ts. ts ++ (b.spelled ++ token ∷ [])) (before_line_kept text levels rest (rest ++ q ∷ []) start);
       }))
       )
   | inr none ↦ (
       let empty = none_of text levels rest tokens none f in
-      rw none (front_with text levels (rest ++ q ∷ []) (tokens ++ (level_changes text levels (rest ++ q ∷ []) ++ token ∷ [])) (has_content-append rest (q ∷ []) ∙ or_right _ _ (or_left _ _ e)) (record {
+      rw none (front_with text levels (rest ++ q ∷ []) (tokens ++ (tokens_before_line text levels (rest ++ q ∷ []) ++ token ∷ [])) (has_content-append rest (q ∷ []) ∙ or_right _ _ (or_left _ _ e)) (record {
         indented = i none;
         spelled = token ∷ [];
         each = subst (λ ps. AllZip (IsTokenOf text) ps (token ∷ [])) (sym (with_token rest q e ∙ ap (λ ps. ps ++ q ∷ []) (nothing_in rest none))) (t, tt);
-        all = ap (λ ts. ts ++ (level_changes text levels (rest ++ q ∷ []) ++ token ∷ [])) empty;
+        all = ap (λ ts. ts ++ (tokens_before_line text levels (rest ++ q ∷ []) ++ token ∷ [])) empty;
       }))
       )
 ]

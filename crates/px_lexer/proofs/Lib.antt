@@ -6,13 +6,17 @@ mod Examples
 pub mod Findings
 pub mod FirstLaws
 pub mod FormLemmas
+pub mod FrontLemmas
 pub mod Holding
 pub mod LevelLemmas
 pub mod Lexed
+pub mod LexemeLemmas
+pub mod LongestLaw
 pub mod NumberLemmas
 pub mod NumberPlaces
 pub mod NumberReading
 pub mod NumberSteps
+pub mod OneToken
 pub mod PieceLaws
 pub mod PlaceLemmas
 pub mod PrefixLemmas
@@ -27,4 +31,5 @@ pub mod StringContentLemmas
 pub mod StringLemmas
 pub mod StringReadLemmas
 pub mod TextLaws
+pub mod TokenAccess
 pub mod WordLemmas

@@ -1,6 +1,7 @@
 -- What the reader of numbers answers.
 use Rattle.std.proofs.Common.{◌≡◌, ◌≢◌, ℕ, ℤ, pos, ◌+◌, ◌-◌, ◌^◌, ◌<◌, ◌≤◌, Bool, true, false, not, ◌&&◌, ◌||◌, ◌⊎◌, List, [], ◌∷◌, ◌++◌, length, take, drop, eqb, slice_index, slice_range, MatchBool, MatchOption, Option, Result, Ok, Err, OkIff, SFits, sym, refl, ap, ap₂, ◌∙◌, subst, inl, inr, arith, add-zero, get_or-take, get_or-drop, drop-drop, length-drop, length-take-le, take-append-drop}
 use Rattle.std.specs.Int.{w128}
+use Rattle.std.specs.Prelude.{◌↔◌, IsTrue}
 use Rattle.std.specs.Result.{result_ok}
 use Rattle.std.proofs.lemmas.Int.{ints, to_z-of_z}
 use mir.Val.{to_z, of_z}
@@ -9,14 +10,13 @@ use Rattle.std.proofs.lemmas.Bool.Decides.{nat_tests}
 use Rattle.std.specs.Char.{is_digit}
 use Rattle.px_lexer.specs.declared.forms.Form.TheVariants as form
 use Rattle.px_lexer.specs.declared.token_list.TokenKind.TheVariants as kind
-use Rattle.px_lexer.specs.declared.readings.Unread.TheVariants.{Broken}
 use Rattle.px_lexer.specs.declared.numbers.Literal.{Literal}
 use Rattle.px_lexer.specs.Words.{continues_word}
 use Rattle.px_lexer.specs.Numbers.{IsDigits, IsDecimal, base_of, digits_value, IsFloat, IsBased, IsWhole, HasLeadingZero, is_zero, number_limit}
 use Rattle.px_lexer.specs.Pieces.{form_of}
 use Rattle.px_lexer.specs.Refusals.{IsBadNumber, BreaksIn, bad_character, bad_word, bad_number, float_literal, literal_too_wide, bad_escape, string_not_ended}
-use Rattle.px_lexer.specs.Readers.{EndsAt, IsReadAs, Reads}
-use Rattle.px_lexer.specs.NumberSteps.{digits_len, decimal_len, letter_len, is_based, start_of, radix_of, whole_len, numeral_len, IsNumeralAt, with_digit}
+use Rattle.px_lexer.specs.Readers.{EndsAt, IsReadAs, IsRefusedFor}
+use Rattle.px_lexer.specs.NumberSteps.{digits_len, decimal_len, letter_len, is_based, digits_start, radix_of, whole_len, numeral_len, IsNumeralAt, with_digit}
 use Rattle.px_lexer.proofs.NumberSteps.{IsPlain, Begins, digits_of, digits_of_decimal, digits_append, first_digit, digit_has_base, base-le, front-ge, floating-ge, decimal-ge, plain_sound, float_apart, based_sound, decimal-le, whole_step, numeral_plain, numeral_based, numeral-le, numeral_is_longest}
 use Rattle.px_lexer.proofs.NumberLemmas.{begins_of_number, some_numeral, decimal_not_float, plain_not_based, whole_not_float}
 use Rattle.px_lexer.proofs.NumberPlaces.{not_below, value_behind, value_more}
@@ -106,19 +106,19 @@ at_front cs n rule i (float e r b) = e
 at_front cs n rule i (wide e r) = e
 
 breaks_first : (cs : List ℕ) (from to r : ℕ) → EndsAt form.Number cs from to → BreaksIn form.Number (drop from cs) (to - from) r 0
-    → ((rule i : ℕ) → Breaks (drop from cs) (to - from) rule i → r ≤ rule) → Reads form.Number cs from (Err (Broken (record { rule = r; at = from })))
+    → ((rule i : ℕ) → Breaks (drop from cs) (to - from) rule i → r ≤ rule) → IsRefusedFor form.Number cs from (record { rule = r; at = from })
 breaks_first cs from to r e b f =
     (to, e, inl (record { index = 0; placed = sym (add-zero from); broken = b; first = λ rule i k. let d = breaks (drop from cs) (to - from) rule i k in inr (sym (at_front (drop from cs) (to - from) rule i d), f rule i d) }))
 
-pub reads_bad : (cs : List ℕ) (from to : ℕ) → EndsAt form.Number cs from to → IsBadNumber (drop from cs) (to - from) → Reads form.Number cs from (Err (Broken (record { rule = 2; at = from })))
-reads_bad cs from to e b = breaks_first cs from to 2 e (bad_number refl refl refl b) least
+pub refused_bad : (cs : List ℕ) (from to : ℕ) → EndsAt form.Number cs from to → IsBadNumber (drop from cs) (to - from) → IsRefusedFor form.Number cs from (record { rule = 2; at = from })
+refused_bad cs from to e b = breaks_first cs from to 2 e (bad_number refl refl refl b) least
   where
     least : (rule i : ℕ) → Breaks (drop from cs) (to - from) rule i → 2 ≤ rule
     least rule i (bad z r h) = omega arith
     least rule i (float z r h) = omega arith
     least rule i (wide z r) = omega arith
 
-float_first : (cs : List ℕ) (from to : ℕ) → EndsAt form.Number cs from to → (IsBadNumber (drop from cs) (to - from) → ⊥) → IsFloat (take (to - from) (drop from cs)) → Reads form.Number cs from (Err (Broken (record { rule = 8; at = from })))
+float_first : (cs : List ℕ) (from to : ℕ) → EndsAt form.Number cs from to → (IsBadNumber (drop from cs) (to - from) → ⊥) → IsFloat (take (to - from) (drop from cs)) → IsRefusedFor form.Number cs from (record { rule = 8; at = from })
 float_first cs from to e n b = breaks_first cs from to 8 e (float_literal refl refl refl b) least
   where
     least : (rule i : ℕ) → Breaks (drop from cs) (to - from) rule i → 8 ≤ rule
@@ -126,7 +126,7 @@ float_first cs from to e n b = breaks_first cs from to 8 e (float_literal refl r
     least rule i (float z r h) = omega arith
     least rule i (wide z r) = omega arith
 
-wide_first : (cs : List ℕ) (from to v : ℕ) → EndsAt form.Number cs from to → (IsBadNumber (drop from cs) (to - from) → ⊥) → IsWhole (take (to - from) (drop from cs)) v → number_limit ≤ v → Reads form.Number cs from (Err (Broken (record { rule = 9; at = from })))
+wide_first : (cs : List ℕ) (from to v : ℕ) → EndsAt form.Number cs from to → (IsBadNumber (drop from cs) (to - from) → ⊥) → IsWhole (take (to - from) (drop from cs)) v → number_limit ≤ v → IsRefusedFor form.Number cs from (record { rule = 9; at = from })
 wide_first cs from to v e n w g = breaks_first cs from to 9 e (literal_too_wide refl refl refl (record { value = v; whole = w; wide = g })) least
   where
     least : (rule i : ℕ) → Breaks (drop from cs) (to - from) rule i → 9 ≤ rule
@@ -175,7 +175,7 @@ len_at cs from literal a = let t = a.to in omega arith
 pub end_inside : (cs : List ℕ) (from : ℕ) (literal : Literal) → form_of (drop from cs) ≡ form.Number → IsNumeralAt (drop from cs) from literal → literal.to ≤ length cs
 end_inside cs from literal f a = (ends_at cs from literal.to f a.to).within
 
-from-le : (cs : List ℕ) (from : ℕ) (literal : Literal) → IsNumeralAt (drop from cs) from literal → from ≤ literal.to
+pub from-le : (cs : List ℕ) (from : ℕ) (literal : Literal) → IsNumeralAt (drop from cs) from literal → from ≤ literal.to
 from-le cs from literal a = let t = a.to in omega arith
 
 decimal_at_end : (cs : List ℕ) (from : ℕ) (literal : Literal) → form_of (drop from cs) ≡ form.Number → IsNumeralAt (drop from cs) from literal
@@ -199,14 +199,17 @@ first_of_range cs from literal f a =
     get_or-take (literal.to - from) (drop from cs) 0 0 (omega arith) ∙ get_or-drop from cs 0 0 ∙ ap (slice_index cs) (add-zero from)
 
 pub padded_decides : (cs : List ℕ) (from : ℕ) (literal : Literal) (b : Bool) → form_of (drop from cs) ≡ form.Number → IsNumeralAt (drop from cs) from literal → continues_word (slice_index cs literal.to) ≡ false → (eqb literal.base 10 && eqb literal.whole literal.to) ≡ true
-    → b ≡ (eqb (slice_index cs from) 48 && not (is_zero (slice_range cs from literal.to))) → MatchBool b (IsBadNumber (drop from cs) (literal.to - from)) (IsBadNumber (drop from cs) (literal.to - from) → ⊥)
+    → b ≡ (eqb (slice_index cs from) 48 && not (is_zero (slice_range cs from literal.to))) → IsTrue b ↔ IsBadNumber (drop from cs) (literal.to - from)
 padded_decides cs from literal true f a t d e =
     let p = and_parts _ _ (sym e) in
     let m : IsDecimal (slice_range cs from literal.to) = rw d at (decimal_at_end cs from literal f a) in
-    inl (record { digits = m; leading = first_of_range cs from literal f a ∙ eqb-true (slice_index cs from) 48 p.0; other = not-true _ p.1 })
-padded_decides cs from literal false f a t d e = λ b.
-    let h = only_padded cs from literal a t b in
-    false≢true (e ∙ and_from (eqb (slice_index cs from) 48) (not (is_zero (slice_range cs from literal.to))) (eq-eqb (slice_index cs from) 48 (sym (first_of_range cs from literal f a) ∙ h.leading)) (ap not h.other))
+    (λ _. inl (record { digits = m; leading = first_of_range cs from literal f a ∙ eqb-true (slice_index cs from) 48 p.0; other = not-true _ p.1 }), λ _. refl)
+padded_decides cs from literal false f a t d e = (λ holds. absurd (false≢true holds), λ b. absurd (not_padded b))
+  where
+    not_padded : IsBadNumber (drop from cs) (literal.to - from) → ⊥
+    not_padded b =
+        let h = only_padded cs from literal a t b in
+        false≢true (e ∙ and_from (eqb (slice_index cs from) 48) (not (is_zero (slice_range cs from literal.to))) (eq-eqb (slice_index cs from) 48 (sym (first_of_range cs from literal f a) ∙ h.leading)) (ap not h.other))
 
 -- The value of what stands there
 
@@ -277,8 +280,8 @@ range_digits : (cs : List ℕ) (from : ℕ) (literal : Literal) → IsNumeralAt 
 unfolding whole_len
 range_digits cs from literal a w =
     let xs = drop from cs in
-    let n : literal.to - literal.digits ≡ digits_len (radix_of xs) (drop (start_of xs) xs) = (let d = a.digits in let e = a.whole in omega arith) in
-    ap₂ (λ (k : ℕ) (ys : List ℕ). take k ys) n (ap (λ (k : ℕ). drop k cs) a.digits ∙ sym (drop-drop (start_of xs) from cs))
+    let n : literal.to - literal.digits ≡ digits_len (radix_of xs) (drop (digits_start xs) xs) = (let d = a.digits in let e = a.whole in omega arith) in
+    ap₂ (λ (k : ℕ) (ys : List ℕ). take k ys) n (ap (λ (k : ℕ). drop k cs) a.digits ∙ sym (drop-drop (digits_start xs) from cs))
 
 pub record IsWholeHere (cs : List ℕ) (from : ℕ) (literal : Literal) : Type 0 where
   pub lower : 2 ≤ literal.base
@@ -303,16 +306,16 @@ pub float_here : (cs : List ℕ) (from : ℕ) (literal : Literal) → form_of (d
 float_here cs from literal f a n =
     rw (len_at cs from literal a) (float_at (drop from cs) (begins_of_number (drop from cs) f) (λ e. n (a.whole ∙ ap (λ (k : ℕ). from + k) e ∙ sym a.to)))
 
-pub reads_float : (cs : List ℕ) (from : ℕ) (literal : Literal) → form_of (drop from cs) ≡ form.Number → IsNumeralAt (drop from cs) from literal → (IsBadNumber (drop from cs) (literal.to - from) → ⊥) → literal.whole ≢ literal.to
-    → Reads form.Number cs from (Err (Broken (record { rule = 8; at = from })))
-reads_float cs from literal f a n w = float_first cs from literal.to (ends_at cs from literal.to f a.to) n (float_here cs from literal f a w)
+pub refused_float : (cs : List ℕ) (from : ℕ) (literal : Literal) → form_of (drop from cs) ≡ form.Number → IsNumeralAt (drop from cs) from literal → (IsBadNumber (drop from cs) (literal.to - from) → ⊥) → literal.whole ≢ literal.to
+    → IsRefusedFor form.Number cs from (record { rule = 8; at = from })
+refused_float cs from literal f a n w = float_first cs from literal.to (ends_at cs from literal.to f a.to) n (float_here cs from literal f a w)
 
-pub reads_wide : (cs : List ℕ) (from : ℕ) (literal : Literal) → form_of (drop from cs) ≡ form.Number → IsNumeralAt (drop from cs) from literal → (IsBadNumber (drop from cs) (literal.to - from) → ⊥) → literal.whole ≡ literal.to
-    → number_limit ≤ digits_value literal.base (slice_range cs literal.digits literal.to) → Reads form.Number cs from (Err (Broken (record { rule = 9; at = from })))
-reads_wide cs from literal f a n w g = wide_first cs from literal.to (digits_value literal.base (slice_range cs literal.digits literal.to)) (ends_at cs from literal.to f a.to) n ((whole_here cs from literal f a w).value n) g
+pub refused_wide : (cs : List ℕ) (from : ℕ) (literal : Literal) → form_of (drop from cs) ≡ form.Number → IsNumeralAt (drop from cs) from literal → (IsBadNumber (drop from cs) (literal.to - from) → ⊥) → literal.whole ≡ literal.to
+    → number_limit ≤ digits_value literal.base (slice_range cs literal.digits literal.to) → IsRefusedFor form.Number cs from (record { rule = 9; at = from })
+refused_wide cs from literal f a n w g = wide_first cs from literal.to (digits_value literal.base (slice_range cs literal.digits literal.to)) (ends_at cs from literal.to f a.to) n ((whole_here cs from literal f a w).value n) g
 
 pub reads_number : (cs : List ℕ) (from : ℕ) (literal : Literal) (x : ℤ) → form_of (drop from cs) ≡ form.Number → IsNumeralAt (drop from cs) from literal → (IsBadNumber (drop from cs) (literal.to - from) → ⊥) → literal.whole ≡ literal.to
-    → x ≡ pos (digits_value literal.base (slice_range cs literal.digits literal.to)) → digits_value literal.base (slice_range cs literal.digits literal.to) < number_limit → Reads form.Number cs from (Ok (record { kind = kind.Number x; to = literal.to }))
+    → x ≡ pos (digits_value literal.base (slice_range cs literal.digits literal.to)) → digits_value literal.base (slice_range cs literal.digits literal.to) < number_limit → IsReadAs form.Number cs from (record { kind = kind.Number x; to = literal.to })
 reads_number cs from literal x f a n w e l = number_first cs from literal.to (digits_value literal.base (slice_range cs literal.digits literal.to)) x (ends_at cs from literal.to f a.to) n ((whole_here cs from literal f a w).value n) l e
 
 pub kept : (z : ℤ) (n : ℕ) → z ≡ pos n → n < number_limit → to_z w128 (of_z w128 z) ≡ pos n

@@ -6,7 +6,7 @@ use Rattle.std.proofs.lemmas.List.{get_or_past}
 use Rattle.std.specs.Char.{is_digit, is_ascii_digit}
 use Rattle.px_lexer.specs.Numbers.{IsDigits, last, next, parted, IsDecimal, base_of, IsPointFloat, fraction_alone, with_fraction, with_point, IsExponent, signed, unsigned, IsFloatingPoint, point, exponent, IsFloat, IsBased, IsNumeral, decimal, based, float}
 use Rattle.px_lexer.specs.Spellings.{IsLongest}
-use Rattle.px_lexer.specs.NumberSteps.{tail_len, digits_len, point_len, sign_len, exponent_len, suffix_len, front_len, floating_len, decimal_len, letter_len, is_based, start_of, radix_of, whole_len, numeral_len}
+use Rattle.px_lexer.specs.NumberSteps.{tail_len, digits_len, point_len, sign_len, exponent_len, suffix_len, front_len, floating_len, decimal_len, letter_len, is_based, digits_start, radix_of, whole_len, numeral_len}
 
 abbrev pub IsDigitsOf : ℕ → List ℕ → Type 0
 IsDigitsOf base = IsDigits (λ c. is_digit c base)
@@ -53,7 +53,7 @@ at_underscore base c cs u t = cond-true _ _ _ (or_right _ _ (and_from _ _ (eq-eq
 pub tail_append : (base : ℕ) {cs : List ℕ} → IsDigitsOf base cs → (rest : List ℕ) → tail_len base (cs ++ rest) ≡ length cs + tail_len base rest
 tail_append base (last {c} t) rest = (at_digit base c rest t).1 ∙ sym (one-add _)
 tail_append base (next {c} {cs} t d) rest = (at_digit base c (cs ++ rest) t).1 ∙ (let e = tail_append base d rest in omega arith)
-tail_append base (parted {c} {underscore = u} {cs} t q d) rest =
+tail_append base (parted {c} {between = u} {cs} t q d) rest =
     let a = (at_digit base c (u ∷ (cs ++ rest)) t).1 in
     let b = at_underscore base u (cs ++ rest) q (first_digit base d rest) in
     let e = tail_append base d rest in
@@ -68,7 +68,7 @@ digits_nonempty base (parted t u d) = omega arith
 pub digits_append : (base : ℕ) {cs : List ℕ} → IsDigitsOf base cs → (rest : List ℕ) → digits_len base (cs ++ rest) ≡ length cs + tail_len base rest
 digits_append base (last {c} t) rest = (at_digit base c rest t).0 ∙ sym (one-add _)
 digits_append base (next {c} {cs} t d) rest = (at_digit base c (cs ++ rest) t).0 ∙ (let e = tail_append base d rest in omega arith)
-digits_append base (parted {c} {underscore = u} {cs} t q d) rest =
+digits_append base (parted {c} {between = u} {cs} t q d) rest =
     let a = (at_digit base c (u ∷ (cs ++ rest)) t).0 in
     let b = at_underscore base u (cs ++ rest) q (first_digit base d rest) in
     let e = tail_append base d rest in
@@ -543,8 +543,8 @@ based_decimal (c ∷ l ∷ cs) t =
     let z : c ≡ 48 = eqb-true c 48 p.0 in
     ap (λ (d : ℕ). decimal_len (d ∷ l ∷ cs)) z ∙ first_after_letter l cs (letters l (digit_has_base (slice_index (c ∷ l ∷ cs) (letter_len (c ∷ l ∷ cs))) (base_of l) p.1))
 
-pub whole_step : (cs : List ℕ) (k : ℕ) → is_based cs ≡ true → letter_len cs ≡ k → (start_of cs ≡ k) × (radix_of cs ≡ base_of (slice_index cs 1)) × (whole_len cs ≡ k + digits_len (base_of (slice_index cs 1)) (drop k cs))
-unfolding start_of radix_of whole_len
+pub whole_step : (cs : List ℕ) (k : ℕ) → is_based cs ≡ true → letter_len cs ≡ k → (digits_start cs ≡ k) × (radix_of cs ≡ base_of (slice_index cs 1)) × (whole_len cs ≡ k + digits_len (base_of (slice_index cs 1)) (drop k cs))
+unfolding digits_start radix_of whole_len
 whole_step cs k t e = rw (t, e) (refl, refl, refl)
 
 pub based_step : (cs : List ℕ) (k : ℕ) → letter_len cs ≡ k → is_based cs ≡ (eqb (slice_index cs 0) 48 && is_digit (slice_index cs k) (base_of (slice_index cs 1)))
@@ -554,7 +554,7 @@ based_step cs k e = rw e refl
 -- what the steps say of digits behind a letter, k characters from the front
 record StandsBehind (cs : List ℕ) (l k : ℕ) (digits rest : List ℕ) : Type 0 where
   based : is_based cs ≡ true
-  start : start_of cs ≡ k
+  start : digits_start cs ≡ k
   radix : radix_of cs ≡ base_of l
   len : whole_len cs ≡ k + length digits + tail_len (base_of l) rest
 
@@ -592,7 +592,7 @@ based_longest x l digits b rest = by_spelling b.spelled
 
 -- the digits with which the whole number at the front ends
 abbrev pub digits_of : List ℕ → List ℕ
-digits_of cs = take (digits_len (radix_of cs) (drop (start_of cs) cs)) (drop (start_of cs) cs)
+digits_of cs = take (digits_len (radix_of cs) (drop (digits_start cs) cs)) (drop (digits_start cs) cs)
 
 pub based_sound : (cs : List ℕ) → is_based cs ≡ true → IsBased (take (whole_len cs) cs) (slice_index cs 1) (digits_of cs)
 unfolding is_based letter_len
@@ -622,8 +622,8 @@ based_sound (c ∷ l ∷ d ∷ cs) t = by_underscore (eqb d 95) refl
 
 -- Any literal
 
-pub numeral_plain : (cs : List ℕ) → is_based cs ≡ false → (start_of cs ≡ 0) × (radix_of cs ≡ 10) × (whole_len cs ≡ digits_len 10 cs) × (numeral_len cs ≡ decimal_len cs)
-unfolding start_of radix_of whole_len numeral_len
+pub numeral_plain : (cs : List ℕ) → is_based cs ≡ false → (digits_start cs ≡ 0) × (radix_of cs ≡ 10) × (whole_len cs ≡ digits_len 10 cs) × (numeral_len cs ≡ decimal_len cs)
+unfolding digits_start radix_of whole_len numeral_len
 numeral_plain cs f = rw f (refl, refl, zero-add _, refl)
 
 pub numeral_based : (cs : List ℕ) → is_based cs ≡ true → numeral_len cs ≡ whole_len cs

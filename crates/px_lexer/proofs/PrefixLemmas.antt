@@ -119,7 +119,7 @@ first_is_prefix a b e =
     (and_parts (list_all is_prefix_letter small) (is_small_prefix (take 1 small)) (and_parts (nat_le (length small) 2) (list_all is_prefix_letter small && is_small_prefix (take 1 small)) (prefix_is_formed (a ∷ b ∷ []) e)).1).1
 
 -- a prefix before a quote is the whole word there
-word_len_at_quote : (cs : List ℕ) (n : ℕ) → is_prefix (take n cs) ≡ true → is_quote (get_or cs n 0) ≡ true → word_len cs ≡ n
+pub word_len_at_quote : (cs : List ℕ) (n : ℕ) → is_prefix (take n cs) ≡ true → is_quote (get_or cs n 0) ≡ true → word_len cs ≡ n
 word_len_at_quote cs n prefix quote =
     let inside = quote_inside cs n quote in
     let within : n ≤ length cs = omega arith in
@@ -138,7 +138,7 @@ opens_is_opened cs e =
     let short = subst (λ n. n ≤ 2) (length-take-le (word_len cs) cs (omega arith)) (prefix_is_short (take (word_len cs) cs) both.0) in
     (word_len cs, short, both.0, both.1)
 
-opened_opens : (cs : List ℕ) (n : ℕ) → is_prefix (take n cs) ≡ true → is_quote (get_or cs n 0) ≡ true → opens_string cs ≡ true
+pub opened_opens : (cs : List ℕ) (n : ℕ) → is_prefix (take n cs) ≡ true → is_quote (get_or cs n 0) ≡ true → opens_string cs ≡ true
 opened_opens cs n prefix quote =
     rw (word_len_at_quote cs n prefix quote) (and_from (is_prefix (take n cs)) (is_quote (get_or cs n 0)) prefix quote)
 
@@ -176,7 +176,7 @@ codes_open cs e =
     (or_cases (is_quote b) (is_prefix (a ∷ b ∷ []) && is_quote c) one.1))
     (or_cases (is_quote a) (is_prefix (a ∷ []) && (is_quote b || (is_prefix (a ∷ b ∷ []) && is_quote c))) e)
 
-opens_string_is : (cs : List ℕ) → opens_string cs ≡ opens_by_codes (get_or cs 0 0) (get_or cs 1 0) (get_or cs 2 0)
+pub opens_string_is : (cs : List ℕ) → opens_string cs ≡ opens_by_codes (get_or cs 0 0) (get_or cs 1 0) (get_or cs 2 0)
 opens_string_is cs =
     same_from_decides (opens_string cs) (opens_by_codes (get_or cs 0 0) (get_or cs 1 0) (get_or cs 2 0))
     ((λ e. e), (λ e. e))

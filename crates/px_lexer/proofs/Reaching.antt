@@ -16,16 +16,16 @@ use Rattle.px_lexer.specs.declared.reader.Reader.{Reader}
 use Rattle.px_lexer.specs.Characters.{unreadable, characters}
 use Rattle.px_lexer.specs.Pieces.{Piece, IsPiece, AreBetween, form_of, is_content, is_comment, is_line_end}
 use Rattle.px_lexer.specs.Lines.{Line, IsLine, pieces_of, has_content, start_of, level_from, indented_to, level_of, own_level, levels_of, last_level, open_levels, depth_behind, depth_after, IsIndented}
-use Rattle.px_lexer.specs.Tokens.{size_limit, token_at, token_behind, end_of_text, IsTokens, IsKind, IsTokenOf, changes_at, level_changes, comment_at, leading_comments}
+use Rattle.px_lexer.specs.Tokens.{size_limit, token_at, token_behind, end_of_text, IsTokens, IsKind, IsTokenOf, indentation_tokens, tokens_before_line, comment_at, leading_comments}
 use Rattle.px_lexer.specs.Refusals.{BreaksIn, IsMisindented, BreaksAt, not_utf8}
 use Rattle.px_lexer.specs.Readers.{EndsAt}
-use Rattle.px_lexer.specs.Reached.{IsPlace, IsNear, token_from, comment_from, changes, levels_behind, IsIndentationFinding, IsOpened, IsStarted, IsClean, IsLexed, IsHeld, IsReached}
+use Rattle.px_lexer.specs.Reached.{IsPlace, IsNear, token_from, comment_from, level_tokens, levels_behind, IsIndentationFinding, IsOpened, IsStarted, IsClean, IsLexed, IsHeld, IsReached}
 use Rattle.px_lexer.proofs.Cuts.{between_append, start_at}
 use Rattle.px_lexer.proofs.Breaks.{has_content-append, content_cases, IsFirstBreak}
 use Rattle.px_lexer.proofs.Lexed.{goes_on_none, or_left, or_right, indented_of_clean, flat_one, lexed_gap, lexed_line, lexed_token, line_end_tokens, token_with_changes}
 use Rattle.px_lexer.proofs.CharacterLemmas.{unreadable_last}
 use Rattle.px_lexer.proofs.FirstLaws.{lands_or_not, CantBeRead, content_ends_no_line, nothing_yet, clean_at_end, last_tokens, tokens_at_end}
-use Rattle.px_lexer.proofs.Holding.{depth_after-more, gap_depth, depth_rises_by_one, own_level_kept, own_level_first, own_level_none, last_level-more, levels_more, levels_of-more, placed_token, placed_changes, leading_with, leading_more}
+use Rattle.px_lexer.proofs.Holding.{depth_after-more, gap_depth, depth_rises_by_one, own_level_kept, own_level_first, own_level_none, last_level-more, levels_more, levels_of-more, placed_token, placed_level_tokens, leading_with, leading_more}
 
 abbrev pub piece_at : Form → ℕ → ℕ → Piece
 piece_at form from to = record { form = form; from = from; to = to }
@@ -247,19 +247,19 @@ advanced_at_start text old mid lines rest tokens q token h none e content start 
     let own : own_level cs (rest ++ q ∷ []) ≡ level_from cs old.start.index ∷ [] = own_level_first cs rest q content none ∙ ap (λ i. level_from cs i ∷ []) start in
     let held : old.levels.items ≡ open_levels levels = h.levels ∙ ap open_levels (levels_before cs lines rest none) in
     let last : old.last_level ≡ last_level levels = h.last_level ∙ ap last_level (levels_before cs lines rest none) in
-    let told : changes old.last_level old.levels.items (level_from cs old.start.index) o.at ≡ level_changes text levels (rest ++ q ∷ []) =
-    ap (λ n. changes n old.levels.items (level_from cs old.start.index) o.at) last
-    ∙ ap (λ ls. changes (last_level levels) ls (level_from cs old.start.index) o.at) held
-    ∙ placed_changes text levels (level_from cs old.start.index) o.at o.there
-    ∙ ap (λ i. changes_at text levels (level_from cs old.start.index) i) o.index
-    ∙ ap (λ i. changes_at text levels (level_from cs i) (indented_to cs i)) (sym start) in
+    let told : level_tokens old.last_level old.levels.items (level_from cs old.start.index) o.at ≡ tokens_before_line text levels (rest ++ q ∷ []) =
+    ap (λ n. level_tokens n old.levels.items (level_from cs old.start.index) o.at) last
+    ∙ ap (λ ls. level_tokens (last_level levels) ls (level_from cs old.start.index) o.at) held
+    ∙ placed_level_tokens text levels (level_from cs old.start.index) o.at o.there
+    ∙ ap (λ i. indentation_tokens text levels (level_from cs old.start.index) i) o.index
+    ∙ ap (λ i. indentation_tokens text levels (level_from cs i) (indented_to cs i)) (sym start) in
     record {
       start = o.rest.start;
       comments = o.rest.comments;
       levels = o.levels ∙ ap (λ ls. levels_behind ls (level_from cs old.start.index)) held ∙ sym (levels_more levels (level_from cs old.start.index)) ∙ ap (λ ls. open_levels (levels ++ ls)) (sym own);
       last = o.last ∙ sym (last_level-more levels (level_from cs old.start.index)) ∙ ap (λ ls. last_level (levels ++ ls)) (sym own);
-      list = ap (λ ts. ts ++ token ∷ []) (o.list ∙ ap (λ ts. ts ++ changes old.last_level old.levels.items (level_from cs old.start.index) o.at) e ∙ ap (λ ts. tokens ++ ts) told)
-          ∙ append_assoc tokens (level_changes text levels (rest ++ q ∷ [])) (token ∷ [])
+      list = ap (λ ts. ts ++ token ∷ []) (o.list ∙ ap (λ ts. ts ++ level_tokens old.last_level old.levels.items (level_from cs old.start.index) o.at) e ∙ ap (λ ts. tokens ++ ts) told)
+          ∙ append_assoc tokens (tokens_before_line text levels (rest ++ q ∷ [])) (token ∷ [])
           ∙ rw none refl;
     }
 

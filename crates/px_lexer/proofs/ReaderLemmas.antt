@@ -1,18 +1,14 @@
--- Brackets, which are pieces of one character, and levels of indentation.
-use Rattle.std.specs.Prelude.{MatchBool, slice_index}
-use Rattle.std.proofs.Common.{nat_eq, subst, inl, inr}
-use Rattle.std.proofs.lemmas.Bool.{false≢true, eqb-true}
-use Rattle.px_lexer.specs.Reached.{IsCutShort}
-use Rattle.px_lexer.proofs.Breaks.{content_cases}
-use Rattle.std.proofs.Common.{◌≡◌, ℕ, suc, ◌+◌, ◌-◌, ◌<◌, ◌≤◌, Bool, true, false, List, [], ◌∷◌, ◌++◌, length, take, drop, refl, ap, sym, ◌∙◌, arith, length-drop, add-one, append-nil}
-use Rattle.std.specs.Prelude.{◌&&◌, ◌||◌, if◌then◌else◌, ◌==◌, slice_index, slice_range, filter, nat_lt}
-use Rattle.std.proofs.lemmas.Bool.{lt-ltb, le-ltb}
+-- Brackets, which are pieces of one character, levels of indentation, and the last character.
+use Rattle.std.proofs.Common.{◌≡◌, ℕ, suc, ◌+◌, ◌-◌, ◌<◌, ◌≤◌, Bool, true, false, List, [], ◌∷◌, ◌++◌, length, take, drop, nat_eq, refl, ap, sym, subst, ◌∙◌, arith, length-drop, add-one, append-nil}
+use Rattle.std.specs.Prelude.{◌&&◌, ◌||◌, ◌↔◌, if◌then◌else◌, ◌==◌, slice_index, slice_range, filter, nat_lt, IsTrue}
+use Rattle.std.proofs.lemmas.Bool.{eqb-true, eq-eqb, ltb-true, lt-ltb, le-ltb}
 use Rattle.std.proofs.lemmas.List.{length-take-le}
 use Rattle.std.proofs.Math.Seq.{drop-cons}
 use Rattle.px_lexer.specs.declared.forms.Form.{Form}
+use Rattle.px_lexer.specs.Characters.{unreadable}
 use Rattle.px_lexer.specs.Signs.{is_opening, is_closing}
 use Rattle.px_lexer.specs.Lines.{depth_behind}
-use Rattle.px_lexer.specs.Reached.{levels_behind}
+use Rattle.px_lexer.specs.Reached.{IsCutShort, levels_behind}
 
 -- a spelling of one character
 one_spelled : (cs : List ℕ) (from to : ℕ) → from < to → to ≤ length cs → to - from ≤ 1 → slice_range cs from to ≡ slice_index cs from ∷ []
@@ -89,16 +85,14 @@ levels_without_own kept old levels level is_kept same flat =
 
 -- Whether the last character can't be read
 
-pub cut_decides : (cs : List ℕ) (len code : ℕ) → len ≡ length cs → 0 < len → code ≡ slice_index cs (len - 1) → MatchBool (nat_eq code 1114112) (IsCutShort cs) (IsCutShort cs → ⊥)
-cut_decides cs len code e some is = elim (content_cases (nat_eq code 1114112)) [
-  | inl same ↦ subst (λ b. MatchBool b (IsCutShort cs) (IsCutShort cs → ⊥)) (sym same) (subst (λ n. 0 < n) e some, at ∙ eqb-true code 1114112 same)
-  | inr other ↦ subst (λ b. MatchBool b (IsCutShort cs) (IsCutShort cs → ⊥)) (sym other) (λ (cut : IsCutShort cs). false≢true (sym other ∙ subst (λ k. nat_eq k 1114112 ≡ true) (sym (sym at ∙ cut.1)) refl))
-]
+pub cut_decides : (cs : List ℕ) (len code : ℕ) → len ≡ length cs → 0 < len → code ≡ slice_index cs (len - 1) → IsTrue (nat_eq code unreadable) ↔ IsCutShort cs
+cut_decides cs len code e some is = (
+  λ same. (subst (λ n. 0 < n) e some, at ∙ eqb-true code unreadable same),
+  λ cut. eq-eqb code unreadable (sym at ∙ cut.1),
+)
   where
     at : slice_index cs (length cs - 1) ≡ code
     at = ap (λ n. slice_index cs (n - 1)) (sym e) ∙ sym is
 
-pub not_cut : (cs : List ℕ) (len : ℕ) → len ≡ length cs → len ≤ 0 → MatchBool (nat_lt 0 len) (IsCutShort cs) (IsCutShort cs → ⊥)
-not_cut cs len e none =
-    let zero : len ≡ 0 = omega (arith, none) in
-    subst (λ n. MatchBool (nat_lt 0 n) (IsCutShort cs) (IsCutShort cs → ⊥)) (sym zero) (λ (cut : IsCutShort cs). absurd (omega (arith, cut.0, e, zero)))
+pub not_cut : (cs : List ℕ) (len : ℕ) → len ≡ length cs → len ≤ 0 → IsTrue (nat_lt 0 len) ↔ IsCutShort cs
+not_cut cs len e none = (λ some. absurd (omega (arith, ltb-true 0 len some, none)), λ cut. absurd (omega (arith, cut.0, e, none)))

@@ -151,13 +151,13 @@ pub no_before_equal : (c : ℕ) → 126 < c → kind_if_sign (c ∷ 61 ∷ []) �
 unfolding kind_if_sign operators foreign_signs
 no_before_equal c h = search (tests, rules)
 
-pub no_doubled : (c : ℕ) → 126 < c → kind_if_sign (c ∷ c ∷ []) ≡ None
+pub no_double : (c : ℕ) → 126 < c → kind_if_sign (c ∷ c ∷ []) ≡ None
 unfolding kind_if_sign operators foreign_signs
-no_doubled c h = search (tests, rules)
+no_double c h = search (tests, rules)
 
-pub no_doubled_before_equal : (c : ℕ) → 126 < c → kind_if_sign (c ∷ c ∷ 61 ∷ []) ≡ None
+pub no_double_before_equal : (c : ℕ) → 126 < c → kind_if_sign (c ∷ c ∷ 61 ∷ []) ≡ None
 unfolding kind_if_sign operators foreign_signs
-no_doubled_before_equal c h = search (tests, rules)
+no_double_before_equal c h = search (tests, rules)
 
 pub no_pair : (a b : ℕ) → (b ≡ 61 → ⊥) → (b ≡ a → ⊥) → (b ≡ 62 → a ≡ 45 → ⊥) → kind_if_sign (a ∷ b ∷ []) ≡ None
 unfolding kind_if_sign operators foreign_signs
@@ -199,7 +199,7 @@ meaning_among (row ∷ rows) s e = by_test (bytes_eq row.0 s) (meaning_among row
     by_test true later e = refl
     by_test false later e = later e
 
-abbrev begins_by_codes : ℕ → ℕ → Bool
+abbrev pub begins_by_codes : ℕ → ℕ → Bool
 begins_by_codes a b = a == 47 || (is_some (meaning_in operators (a ∷ [])) || (a == 33 && b == 61))
 
 begins_when_longer : (a b c : ℕ) → (b ≡ 61 → c ≡ 61) → begins_by_codes a b ≡ true → begins_by_codes a c ≡ true
@@ -222,7 +222,7 @@ second_of_front cs n e =
     (λ (past : n ≤ 1). let short : length (take n cs) ≤ 1 = omega (arith, length-take n cs) in absurd (omega (arith, sym (get_or_past (take n cs) 1 0 short) ∙ e)))
     (cases_lt 1 n)
 
-front_begins : (cs : List ℕ) (n : ℕ) → n ≤ length cs → is_among signs (take n cs) ≡ true → begins_by_codes (get_or cs 0 0) (get_or cs 1 0) ≡ true
+pub front_begins : (cs : List ℕ) (n : ℕ) → n ≤ length cs → is_among signs (take n cs) ≡ true → begins_by_codes (get_or cs 0 0) (get_or cs 1 0) ≡ true
 front_begins cs n fits among =
     let full : 0 < n = subst (λ m. 0 < m) (length-take-le n cs fits) (sign_not_empty (take n cs) among) in
     let test = among_all (λ s. begins_by_codes (get_or s 0 0) (get_or s 1 0)) signs (take n cs) signs_begin_so among in

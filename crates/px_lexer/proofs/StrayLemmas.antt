@@ -2,11 +2,9 @@
 use Rattle.std.proofs.Common.{◌≡◌, ℕ, ◌+◌, ◌-◌, ◌<◌, List, length, drop, get_or, refl, sym, ap, ◌∙◌, inl, inr, arith}
 use Rattle.std.proofs.lemmas.List.{length-drop, get_or-drop}
 use Rattle.px_lexer.specs.declared.forms.Form.TheVariants as form
-use Rattle.px_lexer.specs.declared.readings.Unread.TheVariants.{Broken}
 use Rattle.px_lexer.specs.Characters.{unreadable}
 use Rattle.px_lexer.specs.Refusals.{IsBadCharacter, BreaksIn, bad_character, bad_word, bad_number, float_literal, literal_too_wide, bad_escape, string_not_ended}
-use Rattle.std.specs.Prelude.{Err}
-use Rattle.px_lexer.specs.Readers.{EndsAt, Reads}
+use Rattle.px_lexer.specs.Readers.{EndsAt, IsRefusedFor}
 use Rattle.px_lexer.proofs.FormLemmas.{ends_at}
 
 -- the only rule that it breaks, where it can be read
@@ -25,8 +23,8 @@ stray_ends cs from inside = ends_at form.Stray cs from 1 (omega arith) (omega (a
 first_code : (cs : List ℕ) (from : ℕ) → get_or (drop from cs) 0 0 ≡ get_or cs from 0
 first_code cs from = let n : from + 0 ≡ from = omega arith in get_or-drop from cs 0 0 ∙ ap (λ i. get_or cs i 0) n
 
-pub reads_unreadable : (cs : List ℕ) (from : ℕ) → from < length cs → get_or cs from 0 ≡ unreadable → Reads form.Stray cs from (Err (Broken (record { rule = 1; at = from })))
-reads_unreadable cs from inside bad = (
+pub refused_unreadable : (cs : List ℕ) (from : ℕ) → from < length cs → get_or cs from 0 ≡ unreadable → IsRefusedFor form.Stray cs from (record { rule = 1; at = from })
+refused_unreadable cs from inside bad = (
   from + 1,
   stray_ends cs from inside,
   inr (record {
@@ -38,8 +36,8 @@ reads_unreadable cs from inside bad = (
   }),
 )
 
-pub reads_stray : (cs : List ℕ) (from : ℕ) → from < length cs → (get_or cs from 0 ≡ unreadable → ⊥) → Reads form.Stray cs from (Err (Broken (record { rule = 2; at = from })))
-reads_stray cs from inside good = (
+pub refused_stray : (cs : List ℕ) (from : ℕ) → from < length cs → (get_or cs from 0 ≡ unreadable → ⊥) → IsRefusedFor form.Stray cs from (record { rule = 2; at = from })
+refused_stray cs from inside good = (
   from + 1,
   stray_ends cs from inside,
   inl (record {

@@ -14,7 +14,7 @@ use Rattle.px_lexer.specs.declared.token_list.TokenKind.TheVariants as kind
 use Rattle.px_lexer.specs.Characters.{characters}
 use Rattle.px_lexer.specs.Pieces.{Piece, IsPiece, AreBetween, is_content, is_line_end}
 use Rattle.px_lexer.specs.Lines.{Line, IsLine, GoesOn, pieces_of, has_content, start_of, level_from, indented_to, level_of, own_level, levels_of, indentation_end}
-use Rattle.px_lexer.specs.Tokens.{size_limit, IsTokenOf, token_at, token_behind, newline_at, end_of_text, level_changes, AreOfContent, AreOfLine, AreOfLines, leading_comments, IsTokens}
+use Rattle.px_lexer.specs.Tokens.{size_limit, IsTokenOf, token_at, token_behind, newline_at, end_of_text, tokens_before_line, AreOfContent, AreOfLine, AreOfLines, leading_comments, IsTokens}
 use Rattle.px_lexer.specs.Refusals.{BreaksInPiece, BreaksInLine, IsMisindented, BreaksAt, not_utf8, in_piece, in_line, BreaksCharacters, BreaksText, too_large}
 use Rattle.px_lexer.specs.Laws.{TokensAreUnique}
 use Rattle.px_lexer.proofs.Cuts.{cuts_agree, between_append, between_forward, all_mid, flat_append, no_end_inside, first_lines, line_first, LineCases, same_line, later_line, line_cases}
@@ -71,7 +71,7 @@ line_unique text levels pieces newline ts us a b = elim (content_cases (has_cont
   | inl some ↦ (
       let x = content_of text levels pieces newline ts some a in
       let y = content_of text levels pieces newline us some b in
-      x.all ∙ ap (λ xs. level_changes text levels pieces ++ xs ++ newline ∷ []) (spelled_unique text _ x.spelled y.spelled x.each y.each) ∙ sym y.all
+      x.all ∙ ap (λ xs. tokens_before_line text levels pieces ++ xs ++ newline ∷ []) (spelled_unique text _ x.spelled y.spelled x.each y.each) ∙ sym y.all
       )
   | inr none ↦ nothing_of text levels pieces newline ts none a ∙ sym (nothing_of text levels pieces newline us none b)
 ]

@@ -19,7 +19,7 @@ use Rattle.px_lexer.specs.declared.token_list.TokenKind.{TokenKind}
 use Rattle.px_lexer.specs.declared.token_list.TokenKind.TheVariants as kind
 use Rattle.px_lexer.specs.Characters.{unreadable}
 use Rattle.px_lexer.specs.Spellings.{meaning_in, is_among}
-use Rattle.px_lexer.specs.Words.{starts_word, continues_word, word_len, keywords, foreign_words, IsIdentifier, HasKind, IsWordKind}
+use Rattle.px_lexer.specs.Words.{starts_word, continues_word, word_len, keywords, foreign_words, IsIdentifier, HasWordKind, IsWordKind}
 use Rattle.px_lexer.specs.Strings.{opens_string}
 use Rattle.px_lexer.specs.Places.{is_line_break}
 use Rattle.px_lexer.specs.Signs.{begins_sign}
@@ -176,7 +176,7 @@ word_unread cs word from to ends is bad = (
 
 -- The laws of the kinds of words
 
-kind_unique : (found : Option Keyword) (foreign : Bool) (word : List ℕ) (t u : TokenKind) → HasKind found foreign word t → HasKind found foreign word u → t ≡ u
+kind_unique : (found : Option Keyword) (foreign : Bool) (word : List ℕ) (t u : TokenKind) → HasWordKind found foreign word t → HasWordKind found foreign word u → t ≡ u
 kind_unique (Some k) foreign word t u p q = p ∙ sym q
 kind_unique None true word t u p q = p ∙ sym q
 kind_unique None false word t u p q = p.0 ∙ sym q.0
@@ -185,7 +185,7 @@ kind_unique None false word t u p q = p.0 ∙ sym q.0
 pub word_unique : (cs : List ℕ) (n : ℕ) (t u : TokenKind) → IsKind form.Word cs n t → IsKind form.Word cs n u → t ≡ u
 word_unique cs n t u p q = kind_unique (meaning_in keywords (take n cs)) (is_among foreign_words (take n cs)) (take n cs) t u p q
 
-named : (found : Option Keyword) (foreign : Bool) (word : List ℕ) (t : TokenKind) → found ≡ None → foreign ≡ false → HasKind found foreign word t → IsIdentifier word
+named : (found : Option Keyword) (foreign : Bool) (word : List ℕ) (t : TokenKind) → found ≡ None → foreign ≡ false → HasWordKind found foreign word t → IsIdentifier word
 named (Some k) foreign word t none other has = absurd (cc)
 named None true word t none other has = absurd (cc)
 named None false word t none other has = has.1
@@ -212,7 +212,7 @@ identifier_or_not word =
     (cases_lt 255 (length (encode_utf8_all word)))
 
 settled : (found : Option Keyword) (foreign : Bool) (word : List ℕ) → meaning_in keywords word ≡ found → is_among foreign_words word ≡ foreign
-    → ((t : TokenKind) × HasKind found foreign word t) ⊎ IsBadWord word
+    → ((t : TokenKind) × HasWordKind found foreign word t) ⊎ IsBadWord word
 settled (Some k) foreign word e f = inl (kind.Keyword k, refl)
 settled None true word e f = inl (kind.Foreign, refl)
 settled None false word e f =

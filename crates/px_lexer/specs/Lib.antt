@@ -13,5 +13,6 @@ pub mod Signs
 pub mod Spellings
 pub mod StringSteps
 pub mod Strings
+pub mod Terminals
 pub mod Tokens
 pub mod Words

@@ -1,4 +1,5 @@
 -- Logical lines, brackets and indentation (Python Language Reference, 2.1.1 Logical lines, 2.1.5 to 2.1.8).
+use Prim.Native.Char.{code}
 use Rattle.std.specs.Prelude.{◌≡◌, ◌≢◌, ℕ, ◌+◌, ◌-◌, ◌<◌, suc, Bool, ◌&&◌, ◌⊎◌, List, [], ◌∷◌, ◌++◌, flat_map, length, drop, nat_lt, ◌==◌, if◌then◌else◌, slice_index, Contains, IsTrue, All}
 use Rattle.std.specs.List.{list_any, list_all, prefix_len}
 use Rattle.px_lexer.specs.Signs.{is_opening, is_closing}
@@ -29,7 +30,9 @@ pieces_of line = line.pieces ++ line.ending ∷ []
 
 -- each line end among the pieces stands inside brackets, and so ends no logical line
 abbrev pub GoesOn : List ℕ → List Piece → Type 0
-GoesOn cs pieces = (before after : List Piece) (piece : Piece) → pieces ≡ before ++ piece ∷ after → IsTrue (is_line_end piece.form) → 0 < depth_after cs 0 before
+GoesOn cs pieces =
+    (before after : List Piece) (piece : Piece) → pieces ≡ before ++ piece ∷ after → IsTrue (is_line_end piece.form)
+    → 0 < depth_after cs 0 before
 
 -- the line ends at its first line end outside brackets
 pub record IsLine (cs : List ℕ) (line : Line) : Type 0 where
@@ -56,11 +59,11 @@ start_of (piece ∷ pieces) = piece.from
 
 -- how many form feeds stand from an index on; at the start of a line they are skipped
 abbrev pub feeds_from : List ℕ → ℕ → ℕ
-feeds_from cs start = prefix_len (λ c. c == 12) (drop start cs)
+feeds_from cs start = prefix_len (λ c. c == code "\u{c}") (drop start cs)
 
 -- how many spaces stand behind them, for a line that begins at this index
 abbrev pub level_from : List ℕ → ℕ → ℕ
-level_from cs start = prefix_len (λ c. c == 32) (drop (start + feeds_from cs start) cs)
+level_from cs start = prefix_len (λ c. c == code " ") (drop (start + feeds_from cs start) cs)
 
 -- the index of the first character behind these
 abbrev pub indented_to : List ℕ → ℕ → ℕ
@@ -90,7 +93,8 @@ last_level levels = slice_index (0 ∷ levels) (length levels)
 -- deeper. So of lines of one level with no shallower one between them the last stands for the level.
 unfoldable pub open_levels : List ℕ → List ℕ
 open_levels [] = []
-open_levels (level ∷ later) = if nat_lt 0 level && list_all (nat_lt level) later then level ∷ open_levels later else open_levels later
+open_levels (level ∷ later) =
+    if nat_lt 0 level && list_all (nat_lt level) later then level ∷ open_levels later else open_levels later
 
 -- a line may have this indentation behind lines of those: it is deeper than the last one, or its level is open
 abbrev pub Lands : List ℕ → ℕ → Type 0
@@ -99,5 +103,5 @@ Lands levels level = (last_level levels < level) ⊎ (level ≡ 0) ⊎ Contains 
 -- a line with these pieces may stand behind lines of these indentations; neither a tab nor a form feed follows its spaces
 pub record IsIndented (cs : List ℕ) (levels : List ℕ) (pieces : List Piece) : Type 0 where
   pub lands : Lands levels (level_of cs pieces)
-  pub no_tab : slice_index cs (indentation_end cs pieces) ≢ 9
-  pub no_feed : slice_index cs (indentation_end cs pieces) ≢ 12
+  pub no_tab : slice_index cs (indentation_end cs pieces) ≢ code "\t"
+  pub no_feed : slice_index cs (indentation_end cs pieces) ≢ code "\u{c}"

@@ -1,4 +1,5 @@
 -- The pieces of a text: from its first character to its last, what is spelled at each place, as long as it can be.
+use Prim.Native.Char.{code}
 use Rattle.std.specs.Prelude.{◌≡◌, ℕ, ◌+◌, ◌-◌, ◌<◌, Bool, true, false, not, ◌&&◌, ◌||◌, List, [], ◌∷◌, drop, length, ◌==◌, if◌then◌else◌, slice_index, slice_range}
 use Rattle.std.specs.List.{prefix_len}
 use Rattle.std.specs.Char.{is_ascii_digit}
@@ -13,11 +14,15 @@ use Rattle.px_lexer.specs.Strings.{opens_string, IsBodyLen, string_len}
 
 -- a space, a tab or a form feed
 abbrev pub is_blank : ℕ → Bool
-is_blank c = c == 32 || c == 9 || c == 12
+is_blank c = c == code " " || c == code "\t" || c == code "\u{c}"
 
 -- a digit, or a point and a digit
 abbrev pub begins_number : List ℕ → Bool
-begins_number cs = is_ascii_digit (slice_index cs 0) || slice_index cs 0 == 46 && is_ascii_digit (slice_index cs 1)
+begins_number cs = is_ascii_digit (slice_index cs 0) || slice_index cs 0 == code "." && is_ascii_digit (slice_index cs 1)
+
+-- a backslash and a line end
+abbrev pub joins_lines : List ℕ → Bool
+joins_lines cs = slice_index cs 0 == code "\\" && is_line_break (slice_index cs 1)
 
 -- the form of the piece with which these characters begin
 unfoldable pub form_of : List ℕ → Form
@@ -25,8 +30,8 @@ form_of cs =
     let c = slice_index cs 0 in
     if is_blank c then form.Blank
     else (if is_line_break c then form.LineEnd
-    else (if c == 92 && is_line_break (slice_index cs 1) then form.Join
-    else (if c == 35 then form.Comment
+    else (if joins_lines cs then form.Join
+    else (if c == code "#" then form.Comment
     else (if opens_string cs then form.Text
     else (if starts_word c then form.Word
     else (if begins_number cs then form.Number

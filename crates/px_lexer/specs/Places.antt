@@ -1,25 +1,27 @@
 -- Line ends, and the line and the column of a character (Python Language Reference, 2.1.2 Physical lines). A line end is LF,
 -- CR LF or CR. Past the last character a text reads as 0.
+use Prim.Native.Char.{code}
 use Rattle.std.specs.Prelude.{ℕ, zero, suc, ◌+◌, Bool, not, ◌&&◌, ◌||◌, List, ◌==◌, slice_index, if◌then◌else◌}
 use Rattle.px_base.specs.declared.refusals.Span.{Span}
 use Rattle.px_base.specs.declared.refusals.Refusal.{Refusal}
 
 -- LF or CR
 abbrev pub is_line_break : ℕ → Bool
-is_line_break c = c == 10 || c == 13
+is_line_break c = c == code "\n" || c == code "\r"
 
 -- how many characters the line end takes that begins these: two for CR LF
 abbrev pub line_end_len : List ℕ → ℕ
-line_end_len cs = if slice_index cs 0 == 13 && slice_index cs 1 == 10 then 2 else 1
+line_end_len cs = if slice_index cs 0 == code "\r" && slice_index cs 1 == code "\n" then 2 else 1
 
 -- a line end begins with the character at this index: the LF of a CR LF begins none
 abbrev pub begins_line_end : List ℕ → ℕ → Bool
 begins_line_end cs zero = is_line_break (slice_index cs 0)
-begins_line_end cs (suc i) = slice_index cs (suc i) == 13 || slice_index cs (suc i) == 10 && not (slice_index cs i == 13)
+begins_line_end cs (suc i) =
+    slice_index cs (suc i) == code "\r" || slice_index cs (suc i) == code "\n" && not (slice_index cs i == code "\r")
 
 -- a line end ends with the character at this index: the CR of a CR LF ends none
 abbrev pub ends_line : List ℕ → ℕ → Bool
-ends_line cs i = slice_index cs i == 10 || slice_index cs i == 13 && not (slice_index cs (i + 1) == 10)
+ends_line cs i = slice_index cs i == code "\n" || slice_index cs i == code "\r" && not (slice_index cs (i + 1) == code "\n")
 
 -- how many line ends stand before this index
 unfoldable pub lines_before : List ℕ → ℕ → ℕ

@@ -13,7 +13,7 @@ use Rattle.px_lexer.specs.Characters.{unreadable, characters, byte_of}
 use Rattle.px_lexer.specs.Places.{lines_before, columns_before}
 use Rattle.px_lexer.specs.Pieces.{Piece, AreBetween, is_content}
 use Rattle.px_lexer.specs.Lines.{Line, AreLines, IsIndented, pieces_of, has_content, level_from, indented_to, own_level, levels_of, last_level, open_levels, depth_after}
-use Rattle.px_lexer.specs.Tokens.{size_limit, IsTokenOf, level_changes, AreOfLines, leading_comments}
+use Rattle.px_lexer.specs.Tokens.{size_limit, IsTokenOf, tokens_before_line, AreOfLines, leading_comments}
 use Rattle.px_lexer.specs.Refusals.{BreaksInPiece, BreaksInLine, IsMisindented}
 use Rattle.px_lexer.specs.Readers.{IsNotAfter}
 
@@ -33,7 +33,7 @@ pub record AreOfBegun (text : List ℕ) (levels : List ℕ) (pieces : List Piece
   pub indented : IsIndented (characters text) levels pieces
   pub spelled : List Token
   pub each : AllZip (IsTokenOf text) (filter (λ piece. is_content piece.form) pieces) spelled
-  pub all : tokens ≡ level_changes text levels pieces ++ spelled
+  pub all : tokens ≡ tokens_before_line text levels pieces ++ spelled
 
 -- the tokens of a line that isn't ended, without its NEWLINE
 abbrev pub AreOfFront : List ℕ → List ℕ → List Piece → List Token → Type 0
@@ -87,7 +87,8 @@ pub record IsReached (text : List ℕ) (reader : Reader) : Type 0 where
 -- a line that begins at this index, behind lines of these indentations, breaks no rule by its indentation, or first the one
 -- that the breach names
 abbrev pub IsIndentationFinding : List ℕ → List ℕ → ℕ → Option Breach → Type 0
-IsIndentationFinding cs levels start None = (rule : ℕ) → IsMisindented cs levels (level_from cs start) rule (indented_to cs start) → ⊥
+IsIndentationFinding cs levels start None =
+    (rule : ℕ) → IsMisindented cs levels (level_from cs start) rule (indented_to cs start) → ⊥
 IsIndentationFinding cs levels start (Some breach) =
     (breach.at ≡ indented_to cs start) × IsMisindented cs levels (level_from cs start) breach.rule breach.at
     × ((rule : ℕ) → IsMisindented cs levels (level_from cs start) rule breach.at → breach.rule ≤ rule)
@@ -95,7 +96,8 @@ IsIndentationFinding cs levels start (Some breach) =
 -- of a rule that may be broken and one that is, the one that comes first
 abbrev pub IsEarlier : Option Breach → Breach → Breach → Type 0
 IsEarlier None b first = first ≡ b
-IsEarlier (Some a) b first = ((first ≡ a) × IsNotAfter a.rule a.at b.rule b.at) ⊎ ((first ≡ b) × IsNotAfter b.rule b.at a.rule a.at)
+IsEarlier (Some a) b first =
+    ((first ≡ a) × IsNotAfter a.rule a.at b.rule b.at) ⊎ ((first ≡ b) × IsNotAfter b.rule b.at a.rule a.at)
 
 -- the token of a kind from one place to before another
 abbrev pub token_from : TokenKind → Place → Place → Token
@@ -106,8 +108,8 @@ abbrev pub comment_from : Place → Place → Comment
 comment_from from to = record { at = record { line = from.line; column = from.column }; from = from.byte; to = to.byte }
 
 -- the tokens that tell of a line of this indentation, behind a line of the last one, with these levels open
-abbrev pub changes : ℕ → List ℕ → ℕ → Place → List Token
-changes last levels level at =
+abbrev pub level_tokens : ℕ → List ℕ → ℕ → Place → List Token
+level_tokens last levels level at =
     (if nat_lt last level then token_from kind.Indent at at ∷ [] else [])
     ++ replicate (length (filter (nat_lt level) levels)) (token_from kind.Dedent at at)
 
@@ -129,7 +131,7 @@ pub record IsOpened (text : List ℕ) (before after : Reader) : Type 0 where
   pub at : Place
   pub there : IsPlace text at
   pub index : at.index ≡ indented_to (characters text) before.start.index
-  pub list : after.list ≡ before.list ++ changes before.last_level before.levels.items (level_from (characters text) before.start.index) at
+  pub list : after.list ≡ before.list ++ level_tokens before.last_level before.levels.items (level_from (characters text) before.start.index) at
   pub levels : after.levels.items ≡ levels_behind before.levels.items (level_from (characters text) before.start.index)
   pub last : after.last_level ≡ level_from (characters text) before.start.index
   pub rest : IsOnlyIndented before after

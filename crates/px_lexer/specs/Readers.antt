@@ -39,8 +39,13 @@ pub record IsCutOff (form : Form) (cs : List ℕ) (from to : ℕ) (breach : Brea
   pub near : breach.at ≤ to
   pub clean : (rule i : ℕ) → BreaksIn form (drop from cs) (to - from) rule i → ⊥
 
--- the answer of the reader of a piece of this form at this index; want of memory is free
+-- what is said of a piece that is no token: the first rule that it breaks, or the character that can't be read
+abbrev pub IsRefusedFor : Form → List ℕ → ℕ → Breach → Type 0
+IsRefusedFor form cs from breach =
+    (to : ℕ) × EndsAt form cs from to × (IsFirstBreach form cs from to breach ⊎ IsCutOff form cs from to breach)
+
+-- the answer of a reader that needs memory for a piece of this form at this index; want of memory is free
 abbrev pub Reads : Form → List ℕ → ℕ → Result Found Unread → Type 0
 Reads form cs from (Ok found) = IsReadAs form cs from found
-Reads form cs from (Err (Broken breach)) = (to : ℕ) × EndsAt form cs from to × (IsFirstBreach form cs from to breach ⊎ IsCutOff form cs from to breach)
+Reads form cs from (Err (Broken breach)) = IsRefusedFor form cs from breach
 Reads form cs from (Err NoMemory) = Unit {0}

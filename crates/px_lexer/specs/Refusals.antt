@@ -1,4 +1,5 @@
 -- Where a text breaks a rule of the lexer.
+use Prim.Native.Char.{code}
 use Rattle.std.specs.Prelude.{◌≡◌, ◌≢◌, ℕ, ◌+◌, ◌-◌, ◌<◌, ◌≤◌, ◌⊎◌, List, length, take, drop, nat_lt, slice_index, IsTrue, IsFalse, MatchBool, None}
 use Rattle.px_base.specs.declared.refusals.Refusal.{Refusal}
 use Rattle.px_lexer.specs.declared.forms.Form.{Form}
@@ -29,7 +30,8 @@ pub record IsBadWord (word : List ℕ) : Type 0 where
   pub not_foreign : IsFalse (is_among foreign_words word)
   pub wrong : IsIdentifier word → ⊥
 
--- E2: a decimal without a letter, point or exponent that begins with 0 and isn't 0, or a number that an identifier character follows
+-- E2: a decimal without a letter, point or exponent that begins with 0 and isn't 0, or a number that an identifier character
+-- follows
 abbrev pub IsBadNumber : List ℕ → ℕ → Type 0
 IsBadNumber cs n = HasLeadingZero (take n cs) ⊎ IsTrue (continues_word (slice_index cs n))
 
@@ -84,8 +86,8 @@ pub record BreaksInPiece (cs : List ℕ) (rule i : ℕ) : Type 0 where
 -- the indentation ends with this character, behind lines of these indentations, and breaks the rule with this number there: a
 -- form feed behind its spaces is E2; a tab, and a line that is shallower than the last one and lands on no open level, are E3
 pub data IsMisindented (cs : List ℕ) (levels : List ℕ) (level rule i : ℕ) : Type 0 where
-  form_feed : rule ≡ 2 → slice_index cs i ≡ 12 → IsMisindented cs levels level rule i
-  tab : rule ≡ 3 → slice_index cs i ≡ 9 → IsMisindented cs levels level rule i
+  form_feed : rule ≡ 2 → slice_index cs i ≡ code "\u{c}" → IsMisindented cs levels level rule i
+  tab : rule ≡ 3 → slice_index cs i ≡ code "\t" → IsMisindented cs levels level rule i
   no_level : rule ≡ 3 → (Lands levels level → ⊥) → IsMisindented cs levels level rule i
 
 -- a line with content, which begins with these pieces, breaks the rule at the first character after its indentation
@@ -114,4 +116,5 @@ too_large = record { number = 7; line = 1; column = 1 }
 
 -- The text breaks the rule that the refusal names, at its place. A text that is too large breaks that rule alone.
 abbrev pub BreaksText : List ℕ → Refusal → Type 0
-BreaksText text refusal = MatchBool (nat_lt size_limit (length text)) (refusal ≡ too_large) (BreaksCharacters (characters text) refusal)
+BreaksText text refusal =
+    MatchBool (nat_lt size_limit (length text)) (refusal ≡ too_large) (BreaksCharacters (characters text) refusal)

@@ -1,4 +1,5 @@
 -- Steps of reading a string.
+use Prim.Native.Char.{code}
 use Rattle.std.specs.Prelude.{◌≡◌, ℕ, ◌+◌, ◌<◌, ◌≤◌, ◌==◌, ◌||◌, nat_eq, slice_index, Bool, true, false, List, [], ◌∷◌, length, drop, replicate, if◌then◌else◌, Option, Some, None, IsTrue, IsFalse}
 use Rattle.std.specs.List.{starts_with}
 use Rattle.px_lexer.specs.declared.strings.Quotes.{Quotes}
@@ -14,7 +15,7 @@ use Rattle.px_lexer.specs.Strings.{Escape, stops, closes, body_start, string_len
 
 -- the quotes with this code, three or one
 abbrev pub quotes_by : ℕ → Bool → List ℕ
-quotes_by code triple = if triple then replicate 3 code else code ∷ []
+quotes_by quote triple = if triple then replicate 3 quote else quote ∷ []
 
 -- these quotes open a string, and as many as there are stand at the front
 pub record AreOpening (text : List ℕ) (quotes : Quotes) : Type 0 where
@@ -39,13 +40,13 @@ pub record IsOutline (cs : List ℕ) (from : ℕ) (outline : Outline) : Type 0 w
 
 -- a letter that alone is a prefix of this language
 abbrev pub is_own_letter : ℕ → Bool
-is_own_letter c = c == 114 || (c == 82 || (c == 117 || c == 85))
+is_own_letter c = c == code "r" || (c == code "R" || (c == code "u" || c == code "U"))
 
 -- the characters that are given
 abbrev pub given_of : Given → List ℕ
 given_of Nothing = []
 given_of (One c) = c ∷ []
-given_of (Kept c) = 92 ∷ c ∷ []
+given_of (Kept c) = code "\\" ∷ c ∷ []
 
 -- the escape that is read
 abbrev pub escape_by : Option EscapeRead → Option Escape

@@ -77,29 +77,32 @@ token_behind text t = token_at text (length (characters text)) (length (characte
 
 -- INDENT before a line of this level that is deeper than the last one, and one DEDENT for each open level that is deeper than the
 -- line, at this index
-abbrev pub changes_at : List ℕ → List ℕ → ℕ → ℕ → List Token
-changes_at text levels level at =
+abbrev pub indentation_tokens : List ℕ → List ℕ → ℕ → ℕ → List Token
+indentation_tokens text levels level at =
     (if nat_lt (last_level levels) level then token_at text at at kind.Indent ∷ [] else [])
     ++ replicate (length (filter (nat_lt level) (open_levels levels))) (token_at text at at kind.Dedent)
 
 -- the same for a line with these pieces, behind its indentation
-abbrev pub level_changes : List ℕ → List ℕ → List Piece → List Token
-level_changes text levels pieces = changes_at text levels (level_of (characters text) pieces) (indentation_end (characters text) pieces)
+abbrev pub tokens_before_line : List ℕ → List ℕ → List Piece → List Token
+tokens_before_line text levels pieces =
+    indentation_tokens text levels (level_of (characters text) pieces) (indentation_end (characters text) pieces)
 
 -- behind the last line one DEDENT for each open level, and END
 abbrev pub end_of_text : List ℕ → List ℕ → List Token
-end_of_text text levels = replicate (length (open_levels levels)) (token_behind text kind.Dedent) ++ token_behind text kind.End ∷ []
+end_of_text text levels =
+    replicate (length (open_levels levels)) (token_behind text kind.Dedent) ++ token_behind text kind.End ∷ []
 
 -- the tokens of a line with content, which stands behind lines of these indentations and ends with this NEWLINE
 pub record AreOfContent (text : List ℕ) (levels : List ℕ) (pieces : List Piece) (newline : Token) (tokens : List Token) : Type 0 where
   pub indented : IsIndented (characters text) levels pieces
   pub spelled : List Token
   pub each : AllZip (IsTokenOf text) (filter (λ piece. is_content piece.form) pieces) spelled
-  pub all : tokens ≡ level_changes text levels pieces ++ spelled ++ newline ∷ []
+  pub all : tokens ≡ tokens_before_line text levels pieces ++ spelled ++ newline ∷ []
 
 -- the tokens of a line; there are none without content
 abbrev pub AreOfLine : List ℕ → List ℕ → List Piece → Token → List Token → Type 0
-AreOfLine text levels pieces newline tokens = MatchBool (has_content pieces) (AreOfContent text levels pieces newline tokens) (tokens ≡ [])
+AreOfLine text levels pieces newline tokens =
+    MatchBool (has_content pieces) (AreOfContent text levels pieces newline tokens) (tokens ≡ [])
 
 -- the tokens of lines that are ended, behind lines of these indentations
 abbrev pub AreOfLines : List ℕ → List ℕ → List Line → List Token → Type 0
@@ -112,7 +115,8 @@ AreOfLines text levels (line ∷ lines) tokens =
 -- Leading comment lines
 
 abbrev pub comment_at : List ℕ → Piece → Comment
-comment_at text piece = record { at = span_of (characters text) piece.from; from = byte_of text piece.from; to = byte_of text piece.to }
+comment_at text piece =
+    record { at = span_of (characters text) piece.from; from = byte_of text piece.from; to = byte_of text piece.to }
 
 -- the comments among these pieces before the first token
 abbrev pub leading_comments : List ℕ → List Piece → List Comment
@@ -131,5 +135,6 @@ pub record IsTokens (text : List ℕ) (tokens : List Token) (comments : List Com
   pub ended : AreOfLines text [] lines of_lines
   pub of_rest : List Token
   pub unended : AreOfLine text (levels_of (characters text) lines) rest (token_behind text kind.Newline) of_rest
-  pub all : tokens ≡ of_lines ++ of_rest ++ end_of_text text (levels_of (characters text) lines ++ own_level (characters text) rest)
+  pub all : tokens
+      ≡ of_lines ++ of_rest ++ end_of_text text (levels_of (characters text) lines ++ own_level (characters text) rest)
   pub leading : comments ≡ leading_comments text (flat_map pieces_of lines ++ rest)

@@ -1,6 +1,7 @@
 -- Identifiers, keywords and foreign words (Python Language Reference, 2.3 Identifiers and keywords; Unicode Standard Annex 31).
-use Rattle.std.specs.Prelude.{◌≡◌, ℕ, ◌≤◌, Bool, true, false, not, ◌&&◌, ◌||◌, List, [], ◌∷◌, length, ◌==◌, codes, encode_utf8_all, Option, Some, None}
-use Rattle.std.specs.List.{prefix_len}
+use Prim.Native.Char.{code}
+use Rattle.std.specs.Prelude.{◌≡◌, ℕ, ◌≤◌, Bool, true, false, not, ◌&&◌, ◌||◌, List, [], ◌∷◌, length, ◌==◌, codes, encode_utf8_all, slice_index, Option, Some, None, IsTrue}
+use Rattle.std.specs.List.{list_all, prefix_len}
 use Rattle.unicode_ident.specs.Ident.{is_xid_start, is_xid_continue}
 use Rattle.unicode_normalization.specs.Forms.{IsInForm, Nfkc}
 use Rattle.px_lexer.specs.declared.spelling.Keyword.{Keyword}
@@ -12,7 +13,7 @@ use Rattle.px_lexer.specs.Spellings.{meaning_in, is_among}
 
 -- a character that a word may begin with: `_`, or one of XID_Start
 abbrev pub starts_word : ℕ → Bool
-starts_word c = c == 95 || not (c == unreadable) && is_xid_start c
+starts_word c = c == code "_" || not (c == unreadable) && is_xid_start c
 
 -- an identifier character, with which a word goes on
 abbrev pub continues_word : ℕ → Bool
@@ -21,6 +22,11 @@ continues_word c = not (c == unreadable) && is_xid_continue c
 -- how many identifier characters stand at the front
 abbrev pub word_len : List ℕ → ℕ
 word_len cs = prefix_len continues_word cs
+
+-- identifier characters, the first of which may begin a word
+pub record IsWord (spelling : List ℕ) : Type 0 where
+  pub begins : IsTrue (starts_word (slice_index spelling 0))
+  pub goes_on : IsTrue (list_all continues_word spelling)
 
 unfoldable pub keywords : List (List ℕ × Keyword)
 keywords =
@@ -39,17 +45,21 @@ foreign_words =
     codes "assert" ∷ codes "async" ∷ codes "await" ∷ codes "class" ∷ codes "ctypedef" ∷ codes "del" ∷ codes "extern" ∷
     codes "finally" ∷ codes "include" ∷ codes "lambda" ∷ codes "nonlocal" ∷ codes "try" ∷ codes "yield" ∷ []
 
--- an identifier is in NFKC, and has at most 255 bytes in UTF-8
+-- the greatest number of bytes of an identifier in UTF-8
+abbrev pub identifier_limit : ℕ
+identifier_limit = 255
+
+-- an identifier is in NFKC, and not too long
 pub record IsIdentifier (word : List ℕ) : Type 0 where
   pub normal : IsInForm Nfkc word
-  pub short : length (encode_utf8_all word) ≤ 255
+  pub short : length (encode_utf8_all word) ≤ identifier_limit
 
 -- the kind of a word by what it stands for as a keyword, and whether it is a foreign word
-abbrev pub HasKind : Option Keyword → Bool → List ℕ → TokenKind → Type 0
-HasKind (Some k) is_foreign word t = t ≡ kind.Keyword k
-HasKind None true word t = t ≡ kind.Foreign
-HasKind None false word t = (t ≡ kind.Name) × IsIdentifier word
+abbrev pub HasWordKind : Option Keyword → Bool → List ℕ → TokenKind → Type 0
+HasWordKind (Some k) is_foreign word t = t ≡ kind.Keyword k
+HasWordKind None true word t = t ≡ kind.Foreign
+HasWordKind None false word t = (t ≡ kind.Name) × IsIdentifier word
 
 -- the kind of a whole word that is no prefix of a string
 abbrev pub IsWordKind : List ℕ → TokenKind → Type 0
-IsWordKind word t = HasKind (meaning_in keywords word) (is_among foreign_words word) word t
+IsWordKind word t = HasWordKind (meaning_in keywords word) (is_among foreign_words word) word t

@@ -6,7 +6,8 @@ ghost use Rattle.px_lexer.specs.Words.{starts_word, continues_word};
 use std::alloc::{AllocError, Global};
 use std::marker::Model;
 
-/// The characters of a text, as far as it is UTF-8. Contracts see their codes, and `unreadable` behind them where bytes are left.
+/// The characters of a text, as far as it is UTF-8. Contracts see their codes, and `unreadable` behind them where bytes are
+/// left.
 #[derive(Drop)]
 pub(crate) struct Characters {
     front: Vec<char>,
@@ -39,7 +40,7 @@ fn without_mark(text: &[u8]) -> &[u8]
 }
 
 /// The longest front of some bytes that is UTF-8.
-fn readable(bytes: &[u8]) -> &str
+fn readable_front(bytes: &[u8]) -> &str
     ensures { result.now ≡ take (utf8_valid_len bytes.now) bytes.now }
 {
     match bytes.utf8_chunks().next() {
@@ -57,7 +58,7 @@ impl Characters {
         ensures { IfOk result (λ made. made ≡ characters text.now) }
     {
         let bytes = without_mark(text);
-        let front = readable(bytes);
+        let front = readable_front(bytes);
         let cut = front.len() < bytes.len();
         Ok(Characters {
             front: front.chars().collect(alloc)?,
@@ -105,7 +106,9 @@ impl Characters {
 
     /// The character at an index; none behind the last one, and none where it can't be read.
     pub(crate) fn character(&self, at: usize) -> Option<char>
-        ensures { MatchOption result (IsTrue (nat_le (length self.now) at) ⊎ (slice_index self.now at ≡ unreadable)) (λ c. (at < length self.now) × (slice_index self.now at ≡ c) × (c ≢ unreadable)) }
+        ensures { MatchOption result
+            (IsTrue (nat_le (length self.now) at) ⊎ (slice_index self.now at ≡ unreadable))
+            (λ c. (at < length self.now) × (slice_index self.now at ≡ c) × (c ≢ unreadable)) }
     {
         self.front.get(at).copied()
     }

@@ -4,14 +4,14 @@ ghost use Rattle.std.specs.List.{prefix_len};
 ghost use Rattle.px_lexer.specs.Places.{is_line_break, line_end_len};
 ghost use Rattle.px_lexer.specs.Strings.{is_prefix, is_quote, opens_string};
 ghost use Rattle.px_lexer.specs.Signs.{begins_sign};
-ghost use Rattle.px_lexer.specs.Pieces.{is_blank, begins_number, form_of, is_content};
+ghost use Rattle.px_lexer.specs.Pieces.{is_blank, begins_number, joins_lines, form_of, is_content};
 ghost use Rattle.px_lexer.specs.Readers.{EndsAt};
 
 use crate::characters::Characters;
 use crate::signs::begins_sign;
 
 /// What stands at a place of a text (Python Language Reference, 2 Lexical analysis).
-#[derive(Clone, Copy, Debug)]
+#[derive(Clone, Copy)]
 pub enum Form {
     /// A space, a tab or a form feed (2.1.9 Whitespace between tokens).
     Blank,
@@ -123,7 +123,7 @@ fn begins_number(cs: &Characters, at: usize) -> bool
 
 /// Whether a backslash and a line end stand at an index.
 fn joins_lines(cs: &Characters, at: usize) -> bool
-    ensures { result ≡ (slice_index cs.now at == 92 && is_line_break (slice_index cs.now (at + 1))) }
+    ensures { result ≡ joins_lines (drop at cs.now) }
 {
     cs.code(at) == u32::from(b'\\') && is_line_break(cs.code_ahead(at, 1))
 }

@@ -4,6 +4,7 @@
 //! say otherwise.
 #![tactic(auto)]
 
+pub mod access;
 mod characters;
 mod forms;
 pub mod laws;
@@ -23,6 +24,3 @@ mod words;
 
 pub use spelling::{Keyword, Operator};
 pub use token_list::{Comment, Comments, Token, TokenKind, TokenList, Tokens};
-
-#[cfg(test)]
-mod tests;

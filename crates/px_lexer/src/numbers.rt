@@ -1,20 +1,18 @@
-ghost use Rattle.std.specs.Prelude.{◌≡◌, not, ◌≢◌, ℕ, pos, ◌+◌, ◌-◌, ◌*◌, ◌^◌, ◌<◌, ◌≤◌, ◌⊎◌, ◌==◌, ◌||◌, ◌&&◌, drop, length, slice_index, slice_range, IsTrue, IsFalse, SomeIff, MatchOption, MatchBool};
+ghost use Rattle.std.specs.Prelude.{◌≡◌, not, ◌≢◌, ℕ, pos, ◌+◌, ◌-◌, ◌*◌, ◌^◌, ◌<◌, ◌≤◌, ◌⊎◌, ◌==◌, ◌||◌, ◌&&◌, ◌↔◌, drop, length, slice_index, slice_range, IsTrue, IsFalse, SomeIff, MatchOption, MatchResult};
 ghost use Rattle.std.specs.Char.{is_digit, digit_value};
 ghost use Rattle.px_lexer.specs.declared.forms.Form.TheVariants as form;
-ghost use Rattle.px_lexer.specs.declared.readings.Breach.{Breach};
-ghost use Rattle.px_lexer.specs.declared.readings.Unread.TheVariants.{Broken};
-ghost use Rattle.px_lexer.specs.Numbers.{IsDigits, HasLeadingZero, base_of, digits_value, is_zero, number_limit};
+ghost use Rattle.px_lexer.specs.Numbers.{underscore, zero_digit, IsDigits, base_of, digits_value, is_zero, number_limit};
 ghost use Rattle.px_lexer.specs.NumberSteps.{IsDecimalAt, digits_len, point_len, sign_len, exponent_len, suffix_len, letter_len, with_digit, IsBasedAt, IsNumeralAt};
 ghost use Rattle.px_lexer.specs.Pieces.{form_of};
-ghost use Rattle.px_lexer.specs.Readers.{Reads};
+ghost use Rattle.px_lexer.specs.Readers.{IsReadAs, IsRefusedFor};
 ghost use Rattle.px_lexer.specs.Refusals.{IsBadNumber};
 
 use crate::characters::Characters;
-use crate::readings::{Breach, Found, Unread};
+use crate::readings::{Breach, Found};
 use crate::token_list::TokenKind;
 
 /// A numeric literal: the base of its digits, where they begin and end, and the index behind the literal.
-#[derive(Clone, Copy, Debug)]
+#[derive(Clone, Copy)]
 struct Literal {
     base: u32,
     digits: usize,
@@ -25,47 +23,40 @@ struct Literal {
 /// The whole number at an index.
 ///
 /// # Errors
-/// E2 where it begins with a superfluous 0 or an identifier character follows it, else E8 where it is a float, else E9 where
-/// it is 2^127 or more.
-pub(crate) fn number(cs: &Characters, from: usize) -> Result<Found, Unread>
+/// E2 where it begins with a superfluous 0 or an identifier character follows it, else E8 where it is a float, else E9
+/// where it is 2^127 or more.
+pub(crate) fn number(cs: &Characters, from: usize) -> Result<Found, Breach>
     requires { form_of (drop from cs.now) ≡ form.Number }
-    ensures { Reads form.Number cs.now from result }
+    ensures { MatchResult result (IsReadAs form.Number cs.now from) (IsRefusedFor form.Number cs.now from) }
 {
     let literal = literal_at(cs, from);
     if is_bad(cs, from, literal) {
-        return Err(broken(2, from));
+        return Err(Breach { rule: 2, at: from });
     }
     if literal.whole != literal.to {
-        return Err(broken(8, from));
+        return Err(Breach { rule: 8, at: from });
     }
     match value(cs, literal.digits, literal.to, literal.base) {
         Some(value) => Ok(Found {
             kind: TokenKind::Number(value),
             to: literal.to,
         }),
-        None => Err(broken(9, from)),
+        None => Err(Breach { rule: 9, at: from }),
     }
-}
-
-/// The rule that is broken at an index.
-fn broken(rule: u8, at: usize) -> Unread
-    ensures { result ≡ Broken (record { rule = rule; at = at }) }
-{
-    Unread::Broken(Breach { rule, at })
 }
 
 /// The literal at an index, as long as it can be.
 fn literal_at(cs: &Characters, from: usize) -> Literal
     ensures { IsNumeralAt (drop from cs.now) from result }
 {
-    match based(cs, from) {
+    match based_literal(cs, from) {
         Some(literal) => literal,
-        None => decimal(cs, from),
+        None => decimal_literal(cs, from),
     }
 }
 
 /// The literal with a letter for its base at an index, if there is one.
-fn based(cs: &Characters, from: usize) -> Option<Literal>
+fn based_literal(cs: &Characters, from: usize) -> Option<Literal>
     ensures { IsBasedAt (drop from cs.now) from result }
 {
     if !stands(cs, from, b'0') {
@@ -87,7 +78,9 @@ fn based(cs: &Characters, from: usize) -> Option<Literal>
 
 /// The base that the letter at an index names.
 fn named_base(cs: &Characters, at: usize) -> Option<u32>
-    ensures value { MatchOption result (base_of (slice_index cs.now at) ≡ 0) (λ base. (base ≡ base_of (slice_index cs.now at)) × (2 ≤ base) × (base ≤ 16) × (at + 1 < 2 ^ 64)) }
+    ensures value { MatchOption result
+        (base_of (slice_index cs.now at) ≡ 0)
+        (λ base. (base ≡ base_of (slice_index cs.now at)) × (2 ≤ base) × (base ≤ 16) × (at + 1 < 2 ^ 64)) }
 {
     if at >= cs.len() {
         return None;
@@ -113,7 +106,7 @@ fn letter_end(cs: &Characters, from: usize) -> usize
 }
 
 /// The literal without a letter for its base at an index.
-fn decimal(cs: &Characters, from: usize) -> Literal
+fn decimal_literal(cs: &Characters, from: usize) -> Literal
     ensures { IsDecimalAt (drop from cs.now) from result }
 {
     let whole = digits_end(cs, from, 10);
@@ -196,7 +189,8 @@ fn digits_end(cs: &Characters, from: usize, base: u32) -> usize
 fn goes_on(cs: &Characters, at: usize, base: u32) -> bool
     requires lower { 2 ≤ base }
     requires upper { base ≤ 36 }
-    ensures value { result ≡ (is_digit (slice_index cs.now at) base || slice_index cs.now at == 95 && is_digit (slice_index cs.now (at + 1)) base) }
+    ensures value { result ≡ (is_digit (slice_index cs.now at) base
+        || slice_index cs.now at == underscore && is_digit (slice_index cs.now (at + 1)) base) }
     ensures inside { IsTrue result → (at < length cs.now) × (at + 1 < 2 ^ 64) }
 {
     is_digit(cs, at, base) || stands(cs, at, b'_') && is_digit(cs, at + 1, base)
@@ -247,7 +241,7 @@ fn digit(cs: &Characters, at: usize, base: u32) -> Option<u32>
 fn is_bad(cs: &Characters, from: usize, literal: Literal) -> bool
     requires stands { form_of (drop from cs.now) ≡ form.Number }
     requires whole { IsNumeralAt (drop from cs.now) from literal }
-    ensures { MatchBool result (IsBadNumber (drop from cs.now) (literal.to - from)) (IsBadNumber (drop from cs.now) (literal.to - from) → ⊥) }
+    ensures { IsTrue result ↔ (IsBadNumber (drop from cs.now) (literal.to - from)) }
 {
     if cs.continues_word(literal.to) {
         return true;
@@ -268,7 +262,7 @@ fn is_decimal(literal: Literal) -> bool
 /// Whether these digits begin with a superfluous 0.
 fn is_padded(cs: &Characters, from: usize, to: usize) -> bool
     requires { to ≤ length cs.now }
-    ensures { result ≡ (slice_index cs.now from == 48 && not (is_zero (slice_range cs.now from to))) }
+    ensures { result ≡ (slice_index cs.now from == zero_digit && not (is_zero (slice_range cs.now from to))) }
 {
     stands(cs, from, b'0') && !is_zero(cs, from, to)
 }
@@ -292,7 +286,10 @@ fn value(cs: &Characters, from: usize, to: usize, base: u32) -> Option<i128>
     requires upper { base ≤ 36 }
     requires inside { to ≤ length cs.now }
     requires digits { IsDigits (λ c. is_digit c base) (slice_range cs.now from to) }
-    ensures { MatchOption result (number_limit ≤ digits_value base (slice_range cs.now from to)) (λ v. (v ≡ pos (digits_value base (slice_range cs.now from to))) × (digits_value base (slice_range cs.now from to) < number_limit)) }
+    ensures { MatchOption result
+        (number_limit ≤ digits_value base (slice_range cs.now from to))
+        (λ v. (v ≡ pos (digits_value base (slice_range cs.now from to)))
+        × (digits_value base (slice_range cs.now from to) < number_limit)) }
 {
     let mut value: u128 = 0;
     for at in from..to {
@@ -305,8 +302,10 @@ fn value(cs: &Characters, from: usize, to: usize, base: u32) -> Option<i128>
 fn with_digit(cs: &Characters, at: usize, base: u32, value: u128) -> Option<u128>
     requires lower { 2 ≤ base }
     requires upper { base ≤ 36 }
-    requires digit { IsTrue (is_digit (slice_index cs.now at) base) ⊎ (slice_index cs.now at ≡ 95) }
-    ensures { SomeIff result (with_digit base value (slice_index cs.now at) < 2 ^ 128) (with_digit base value (slice_index cs.now at)) }
+    requires digit { IsTrue (is_digit (slice_index cs.now at) base) ⊎ (slice_index cs.now at ≡ underscore) }
+    ensures { SomeIff result
+        (with_digit base value (slice_index cs.now at) < 2 ^ 128)
+        (with_digit base value (slice_index cs.now at)) }
 {
     match digit(cs, at, base) {
         Some(digit) => value

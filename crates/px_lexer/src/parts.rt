@@ -55,7 +55,9 @@ impl<'a> Part<'a> {
 
     /// The character at an index; none behind the last one, and none where it can't be read.
     pub(crate) fn character(&self, at: usize) -> Option<char>
-        ensures cases { MatchOption result (IsTrue (nat_le (length self.now) at) ⊎ (slice_index self.now at ≡ unreadable)) (λ c. (at < length self.now) × (slice_index self.now at ≡ c) × (c ≢ unreadable)) }
+        ensures cases { MatchOption result
+            (IsTrue (nat_le (length self.now) at) ⊎ (slice_index self.now at ≡ unreadable))
+            (λ c. (at < length self.now) × (slice_index self.now at ≡ c) × (c ≢ unreadable)) }
         ensures short { length self.now < 2 ^ 64 }
     {
         if at < self.to - self.from {

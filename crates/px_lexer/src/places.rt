@@ -19,7 +19,7 @@ pub struct Source<'a> {
 }
 
 /// A place in a text: the index of a character, or behind the last one, with its line, its column and its byte.
-#[derive(Clone, Copy, Debug)]
+#[derive(Clone, Copy)]
 pub struct Place {
     pub index: usize,
     pub line: u32,
@@ -28,7 +28,7 @@ pub struct Place {
 }
 
 /// How many spaces stand at the start of a line behind its form feeds, and the index behind them.
-#[derive(Clone, Copy, Debug)]
+#[derive(Clone, Copy)]
 pub(crate) struct Indentation {
     pub(crate) level: usize,
     pub(crate) end: usize,

@@ -1,4 +1,4 @@
-ghost use Rattle.std.specs.Prelude.{◌≡◌, ◌<◌, ◌≤◌, ◌^◌, ◌++◌, List, [], ◌∷◌, ℕ, length, drop, filter, replicate, nat_lt, true, false, IsTrue, IsFalse, OnOk, MatchBool, Option, Some, None, if◌then◌else◌};
+ghost use Rattle.std.specs.Prelude.{◌≡◌, ◌<◌, ◌≤◌, ◌^◌, ◌++◌, ◌↔◌, List, [], ◌∷◌, ℕ, length, drop, filter, replicate, nat_lt, true, false, IsTrue, IsFalse, OnOk, Option, Some, None, if◌then◌else◌};
 ghost use Rattle.px_base.specs.Troubles.{IfRefused};
 ghost use Rattle.px_base.specs.Findings.{IsFirst};
 ghost use Rattle.px_lexer.specs.declared.forms.Form.{Form};
@@ -10,7 +10,7 @@ ghost use Rattle.px_lexer.specs.Lines.{last_level, open_levels, depth_behind, La
 ghost use Rattle.px_lexer.specs.Tokens.{IsTokens};
 ghost use Rattle.px_lexer.specs.Readers.{Reads, EndsAt, IsReadAs};
 ghost use Rattle.px_lexer.specs.Refusals.{BreaksCharacters};
-ghost use Rattle.px_lexer.specs.Reached.{IsCutShort, IsEarlier, token_from, comment_from, IsStarted, IsPlace, IsNear, changes, levels_behind, IsOnlyIndented, IsSource, IsReached, IsIndentationFinding};
+ghost use Rattle.px_lexer.specs.Reached.{IsCutShort, IsEarlier, token_from, comment_from, IsStarted, IsPlace, IsNear, level_tokens, levels_behind, IsOnlyIndented, IsSource, IsReached, IsIndentationFinding};
 
 use crate::characters::{Characters, UNREADABLE};
 use crate::forms::{Form, form_at, gap_end};
@@ -91,10 +91,10 @@ fn content(alloc: Global, cs: &Characters, form: Form, from: usize) -> Result<Fo
 {
     match form {
         Form::Word => word(alloc, cs, from),
-        Form::Number => number(cs, from),
+        Form::Number => Ok(number(cs, from)?),
         Form::Text => string(alloc, cs, from),
-        Form::Sign => sign(cs, from),
-        _ => stray(cs, from),
+        Form::Sign => Ok(sign(cs, from)),
+        _ => Err(Unread::Broken(stray(cs, from))),
     }
 }
 
@@ -144,7 +144,8 @@ fn push_dedents(
     level: usize,
     at: Place,
 ) -> Result<(), AllocError>
-    ensures { OnOk result (list.new ≡ list.old ++ replicate (length (filter (nat_lt level) levels.now)) (token_from kind.Dedent at at)) }
+    ensures { OnOk result (list.new
+        ≡ list.old ++ replicate (length (filter (nat_lt level) levels.now)) (token_from kind.Dedent at at)) }
 {
     for open in levels {
         if level < *open {
@@ -156,7 +157,7 @@ fn push_dedents(
 
 /// Whether the last character can't be read.
 fn is_cut_short(cs: &Characters) -> bool
-    ensures { MatchBool result (IsCutShort cs.now) (IsCutShort cs.now → ⊥) }
+    ensures { IsTrue result ↔ (IsCutShort cs.now) }
 {
     let len = cs.len();
     len > 0 && cs.code(len - 1) == UNREADABLE
@@ -218,10 +219,11 @@ impl Reader {
     }
 
     /// The rule that the indentation of the line breaks, if it does and no piece with content was read on the line.
-    fn misindented(&self, cs: &Characters) -> Option<Breach>
+    fn indentation_breach(&self, cs: &Characters) -> Option<Breach>
         requires { self.now.start.index ≤ length cs.now }
         ensures started { self.now.started ≡ true → result ≡ None }
-        ensures finding { (levels : List ℕ) → self.now.levels.items ≡ open_levels levels → self.now.last_level ≡ last_level levels → self.now.started ≡ false
+        ensures finding { (levels : List ℕ) → self.now.levels.items ≡ open_levels levels
+            → self.now.last_level ≡ last_level levels → self.now.started ≡ false
             → IsIndentationFinding cs.now levels self.now.start.index result }
     {
         if self.started {
@@ -241,7 +243,8 @@ impl Reader {
 
     /// Whether the next line may have this indentation.
     fn lands(&self, level: usize) -> bool
-        ensures { (levels : List ℕ) → self.now.levels.items ≡ open_levels levels → self.now.last_level ≡ last_level levels → MatchBool result (Lands levels level) (Lands levels level → ⊥) }
+        ensures { (levels : List ℕ) → self.now.levels.items ≡ open_levels levels
+            → self.now.last_level ≡ last_level levels → IsTrue result ↔ (Lands levels level) }
     {
         self.last_level < level || level == 0 || self.levels.contains(&level)
     }
@@ -296,7 +299,8 @@ impl Reader {
 
     /// Adds the tokens that tell of the indentation of a line, which is `level` and ends at a place.
     fn open_line(&mut self, level: usize, at: Place) -> Result<(), AllocError>
-        ensures list { OnOk result (self.new.list ≡ self.old.list ++ changes self.old.last_level self.old.levels.items level at) }
+        ensures list { OnOk result (self.new.list
+            ≡ self.old.list ++ level_tokens self.old.last_level self.old.levels.items level at) }
         ensures levels { OnOk result (self.new.levels.items ≡ levels_behind self.old.levels.items level) }
         ensures last { OnOk result (self.new.last_level ≡ level) }
         ensures rest { OnOk result (IsOnlyIndented self.old self.new) }
@@ -338,7 +342,8 @@ impl Reader {
         requires stands { form ≡ form_of (drop self.old.at.index source.now.characters) }
         requires content { IsTrue (is_content form) }
         requires found { IsReadAs form source.now.characters self.old.at.index found }
-        requires indented { self.old.started ≡ false → (levels : List ℕ) → self.old.levels.items ≡ open_levels levels → self.old.last_level ≡ last_level levels
+        requires indented { self.old.started ≡ false → (levels : List ℕ) → self.old.levels.items ≡ open_levels levels
+            → self.old.last_level ≡ last_level levels
             → IsIndentationFinding source.now.characters levels self.old.start.index None }
         ensures reached { OnOk result (IsReached source.now.text.now self.new) }
         ensures there { OnOk result (self.new.at.index ≡ found.to) }
@@ -366,7 +371,7 @@ impl Reader {
         ensures forward { OnOk result (self.old.at.index < self.new.at.index) }
         ensures refused { IfRefused result (λ refusal. IsFirst (BreaksCharacters source.now.characters) (Some refusal)) }
     {
-        let misindented = self.misindented(&source.characters);
+        let misindented = self.indentation_breach(&source.characters);
         match content(alloc, &source.characters, form, self.at.index) {
             Ok(found) => match misindented {
                 Some(breach) => Err(refusal(source, self.start, breach)),
@@ -387,7 +392,8 @@ impl Reader {
     /// Reads the next piece.
     ///
     /// # Errors
-    /// The first rule that the text breaks, where it breaks one up to the end of the piece; `NoMemory` where there is no memory for what is found.
+    /// The first rule that the text breaks, where it breaks one up to the end of the piece; `NoMemory` where there is no
+    /// memory for what is found.
     pub(crate) fn read_piece(&mut self, alloc: Global, source: &Source) -> Result<(), Trouble>
         requires whole { IsSource source.now }
         requires reached { IsReached source.now.text.now self.old }

@@ -2,24 +2,35 @@ use crate::token_list::TokenKind;
 use std::alloc::AllocError;
 
 /// The kind of a piece that is a token, and the index of the character behind it.
-#[derive(Debug, Drop)]
+#[derive(Drop)]
 pub struct Found {
     pub kind: TokenKind,
     pub to: usize,
 }
 
 /// A rule that is broken, by its number, and the index of the character at which it is.
-#[derive(Clone, Copy, Debug)]
+#[derive(Clone, Copy)]
 pub struct Breach {
     pub rule: u8,
     pub at: usize,
 }
 
 /// Why a piece is no token.
-#[derive(Debug, Drop)]
+#[derive(Drop)]
 pub enum Unread {
     Broken(Breach),
     NoMemory,
+}
+
+impl From<Breach> for Unread {
+    ghost use Rattle.std.specs.Prelude.{◌≡◌};
+    ghost use Rattle.px_lexer.specs.declared.readings.Unread.TheVariants.{Broken};
+
+    ghost from_gives = { λ breach e. e ≡ Broken breach };
+
+    fn from(breach: Breach) -> Unread {
+        Unread::Broken(breach)
+    }
 }
 
 impl From<AllocError> for Unread {

@@ -1,13 +1,13 @@
-ghost use Rattle.std.specs.Prelude.{◌≡◌, [], ◌∷◌, drop};
+ghost use Rattle.std.specs.Prelude.{◌≡◌, [], ◌∷◌, codes, drop};
 ghost use Rattle.px_lexer.specs.declared.forms.Form.TheVariants as form;
 ghost use Rattle.px_lexer.specs.Spellings.{meaning_in};
 ghost use Rattle.px_lexer.specs.Signs.{operators, begins_sign, sign_kind};
 ghost use Rattle.px_lexer.specs.SignSteps.{kind_if_sign};
 ghost use Rattle.px_lexer.specs.Pieces.{form_of};
-ghost use Rattle.px_lexer.specs.Readers.{Reads};
+ghost use Rattle.px_lexer.specs.Readers.{IsReadAs};
 
 use crate::characters::Characters;
-use crate::readings::{Found, Unread};
+use crate::readings::Found;
 use crate::spelling::Operator;
 use crate::token_list::TokenKind;
 
@@ -55,7 +55,7 @@ fn single_kind(c: u32) -> TokenKind
 
 /// The kind of this character and `=` behind it, if they are a sign.
 fn before_equal(c: u32) -> Option<TokenKind>
-    ensures { result ≡ kind_if_sign (c ∷ 61 ∷ []) }
+    ensures { result ≡ kind_if_sign (c ∷ codes "=") }
 {
     match char::from_u32(c)? {
         '=' => Some(TokenKind::Operator(Operator::DoubleEqual)),
@@ -77,7 +77,7 @@ fn before_equal(c: u32) -> Option<TokenKind>
 }
 
 /// The kind of this character twice, if that is a sign.
-fn doubled(c: u32) -> Option<TokenKind>
+fn double(c: u32) -> Option<TokenKind>
     ensures { result ≡ kind_if_sign (c ∷ c ∷ []) }
 {
     match char::from_u32(c)? {
@@ -91,8 +91,8 @@ fn doubled(c: u32) -> Option<TokenKind>
 }
 
 /// The kind of this character twice and `=` behind it, if they are a sign.
-fn doubled_before_equal(c: u32) -> Option<TokenKind>
-    ensures { result ≡ kind_if_sign (c ∷ c ∷ 61 ∷ []) }
+fn double_before_equal(c: u32) -> Option<TokenKind>
+    ensures { result ≡ kind_if_sign (c ∷ c ∷ codes "=") }
 {
     match char::from_u32(c)? {
         '/' => Some(TokenKind::Operator(Operator::DoubleSlashEqual)),
@@ -111,7 +111,7 @@ fn pair(first: u32, second: u32) -> Option<TokenKind>
         return before_equal(first);
     }
     if second == first {
-        return doubled(first);
+        return double(first);
     }
     if second == u32::from(b'>') && first == u32::from(b'-') {
         return Some(TokenKind::Foreign);
@@ -127,7 +127,7 @@ fn triple(first: u32, second: u32, third: u32) -> Option<TokenKind>
         return None;
     }
     if third == u32::from(b'=') {
-        return doubled_before_equal(first);
+        return double_before_equal(first);
     }
     if third == u32::from(b'.') && first == u32::from(b'.') {
         return Some(TokenKind::Operator(Operator::Ellipsis));
@@ -147,22 +147,22 @@ pub(crate) fn begins_sign(cs: &Characters, at: usize) -> bool
 }
 
 /// The sign at an index, which is the longest that stands there. No sign breaks a rule.
-pub(crate) fn sign(cs: &Characters, from: usize) -> Result<Found, Unread>
+pub(crate) fn sign(cs: &Characters, from: usize) -> Found
     requires { form_of (drop from cs.now) ≡ form.Sign }
-    ensures { Reads form.Sign cs.now from result }
+    ensures { IsReadAs form.Sign cs.now from result }
 {
     // The length bounds the sums.
     let _length = cs.len();
     let first = cs.code(from);
     let second = cs.code_ahead(from, 1);
     if let Some(kind) = triple(first, second, cs.code_ahead(from, 2)) {
-        return Ok(Found { kind, to: from + 3 });
+        return Found { kind, to: from + 3 };
     }
     if let Some(kind) = pair(first, second) {
-        return Ok(Found { kind, to: from + 2 });
+        return Found { kind, to: from + 2 };
     }
-    Ok(Found {
+    Found {
         kind: single_kind(first),
         to: from + 1,
-    })
+    }
 }

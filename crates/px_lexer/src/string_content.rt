@@ -12,14 +12,14 @@ use px_base::{Chars, Sequence};
 use std::alloc::{AllocError, Global};
 
 /// What the body of a string stands for, or the index of its first wrong escape.
-#[derive(Debug, Drop)]
+#[derive(Drop)]
 pub enum Content {
     Spelled(Chars),
     Wrong(usize),
 }
 
 /// What an escape gives.
-#[derive(Clone, Copy, Debug)]
+#[derive(Clone, Copy)]
 pub enum Given {
     Nothing,
     One(char),
@@ -28,7 +28,7 @@ pub enum Given {
 }
 
 /// An escape: how many characters it has, and what they stand for.
-#[derive(Clone, Copy, Debug)]
+#[derive(Clone, Copy)]
 pub struct EscapeRead {
     pub taken: usize,
     pub given: Given,
@@ -162,7 +162,8 @@ fn escape_at(body: &Part, at: usize, next: char) -> Option<EscapeRead>
 /// What a simple escape gives.
 #[tactic(auto, unfolding(crate::specs::Strings::simple_escapes))]
 fn simple_escape(next: char) -> Given
-    ensures { Some (record { taken = 2; given = given_of result }) ≡ simple_escape next (find (λ row. row.0 == next) simple_escapes) }
+    ensures { Some (record { taken = 2; given = given_of result })
+        ≡ simple_escape next (find (λ row. row.0 == next) simple_escapes) }
 {
     match next {
         '\\' => Given::One('\\'),
@@ -193,7 +194,8 @@ fn octal_escape(body: &Part, at: usize) -> Option<EscapeRead>
     })
 }
 
-/// The escape of so many hexadecimal digits behind a backslash and a letter; none where they aren't there, or write no character.
+/// The escape of so many hexadecimal digits behind a backslash and a letter; none where they aren't there, or write no
+/// character.
 fn hex_escape(body: &Part, at: usize, count: usize) -> Option<EscapeRead>
     requires inside { at + 1 < length body.now }
     requires few { count ≤ 8 }

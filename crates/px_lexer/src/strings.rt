@@ -16,21 +16,21 @@ use crate::words::word_end;
 use std::alloc::Global;
 
 /// The quotes on each side of a string, by their code: one, or three.
-#[derive(Clone, Copy, Debug)]
+#[derive(Clone, Copy)]
 pub struct Quotes {
     pub code: u32,
     pub triple: bool,
 }
 
 /// How many characters the body of a string has, and whether the string is closed behind it.
-#[derive(Clone, Copy, Debug)]
+#[derive(Clone, Copy)]
 pub struct BodyEnd {
     pub len: usize,
     pub closed: bool,
 }
 
 /// The indices in a text of the opening quotes of a string, of its body and of what follows the string.
-#[derive(Clone, Copy, Debug)]
+#[derive(Clone, Copy)]
 pub struct Outline {
     pub opening: usize,
     pub start: usize,

@@ -25,7 +25,7 @@ pub enum TokenKind {
 }
 
 /// A token of a text: its place, and its bytes from `from` to before `to`, which are its spelling.
-#[derive(Debug, Drop)]
+#[derive(Drop)]
 pub struct Token {
     pub kind: TokenKind,
     pub at: Span,
@@ -37,7 +37,7 @@ pub struct Token {
 pub type TokenList = Sequence<Token>;
 
 /// A comment: its place, and its bytes from the `#` to before its line end.
-#[derive(Clone, Copy, Debug)]
+#[derive(Clone, Copy)]
 pub struct Comment {
     pub at: Span,
     pub from: u32,
@@ -48,7 +48,7 @@ pub struct Comment {
 pub type Comments = Sequence<Comment>;
 
 /// A text with its tokens, the last of which is `End`, and the comment lines before its first other token.
-#[derive(Debug, Drop)]
+#[derive(Drop)]
 pub struct Tokens {
     pub text: Bytes,
     pub list: TokenList,

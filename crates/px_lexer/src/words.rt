@@ -3,7 +3,7 @@ ghost use Rattle.unicode_normalization.specs.Forms.{IsInForm, Nfkc};
 ghost use Rattle.px_lexer.specs.declared.forms.Form.TheVariants as form;
 ghost use Rattle.px_lexer.specs.Pieces.{form_of};
 ghost use Rattle.px_lexer.specs.Spellings.{meaning_in, is_among};
-ghost use Rattle.px_lexer.specs.Words.{word_len, keywords, foreign_words, IsIdentifier, IsWordKind};
+ghost use Rattle.px_lexer.specs.Words.{word_len, keywords, foreign_words, identifier_limit, IsIdentifier, IsWordKind};
 ghost use Rattle.px_lexer.specs.Refusals.{IsBadWord};
 ghost use Rattle.px_lexer.specs.Readers.{Reads};
 
@@ -162,7 +162,7 @@ const IDENTIFIER_LIMIT: usize = 255;
 
 /// Whether a word isn't too long for an identifier.
 fn is_short(word: &[char]) -> bool
-    ensures { IsTrue result ↔ (length (encode_utf8_all word.now) ≤ 255) }
+    ensures { IsTrue result ↔ (length (encode_utf8_all word.now) ≤ identifier_limit) }
 {
     if word.len() > IDENTIFIER_LIMIT {
         return false;

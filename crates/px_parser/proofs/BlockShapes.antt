@@ -2,7 +2,7 @@
 use Rattle.std.proofs.Common.{ℕ, zero, suc, ◌≤◌, max, List, [], arith}
 use Rattle.px_lexer.specs.declared.token_list.TokenKind.TheVariants as kind
 use Rattle.px_tree.specs.declared.statements.Stmt.{Stmt}
-use Rattle.px_exprs.specs.Terminals.{Terminal}
+use Rattle.px_lexer.specs.Terminals.{Terminal}
 use Rattle.px_exprs.specs.Readings.{Stops}
 use Rattle.px_exprs.proofs.Agreement.{agree_same}
 use Rattle.px_parser.specs.Shapes.{Mode, Shape, Either, Many, Of, After, Before}

@@ -6,7 +6,7 @@ use Rattle.px_lexer.specs.declared.token_list.TokenKind.TheVariants as kind
 use Rattle.px_tree.specs.declared.statements.Stmt.{Stmt}
 use Rattle.px_exprs.specs.declared.readings.Unread.{Unread}
 use Rattle.px_exprs.specs.declared.readings.Unread.TheVariants as unread
-use Rattle.px_exprs.specs.Terminals.{Terminal, HasKind}
+use Rattle.px_lexer.specs.Terminals.{Terminal, HasKind}
 use Rattle.px_exprs.specs.Readings.{Agree}
 use Rattle.px_exprs.specs.Runs.{nesting_limit}
 use Rattle.px_exprs.proofs.Agreement.{agree_back, agree_same, agree_carried}

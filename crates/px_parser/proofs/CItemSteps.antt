@@ -21,8 +21,7 @@ use Rattle.px_tree.specs.declared.modules.Function.{Function}
 use Rattle.px_tree.specs.declared.modules.ModuleItem.{ModuleItem}
 use Rattle.px_tree.specs.declared.modules.ModuleItem.TheVariants as module_item
 use Rattle.px_exprs.specs.declared.readings.Unread.{Unread}
-use Rattle.px_exprs.specs.Inputs.{terminals_of}
-use Rattle.px_exprs.specs.Terminals.{Terminal, IsKeyword, IsOperator, IsAt, IsName}
+use Rattle.px_lexer.specs.Terminals.{terminals_of, Terminal, IsKeyword, IsOperator, IsAt, IsName}
 use Rattle.px_exprs.specs.Readings.{Agree}
 use Rattle.px_exprs.specs.Runs.{nesting_limit}
 use Rattle.px_exprs.proofs.Agreement.{agree_back, agree_carried}
@@ -38,7 +37,7 @@ use Rattle.px_parser.proofs.Shapely.{good_of}
 use Rattle.px_parser.proofs.Onlies.{Sees, leads_wider}
 use Rattle.px_parser.proofs.Steps.{Step, Part, Inside, late, fails_late, fails, step_twice, step_first, step_second, reached_here, reached_made, reached_whole, sees_strict}
 use Rattle.px_parser.proofs.ReadingSteps.{step_back, step_made, step_ends, read_absent, kind_read}
-use Rattle.px_exprs.proofs.TokenReading.{length_terminals}
+use Rattle.px_lexer.proofs.TokenAccess.{length_terminals}
 use Rattle.px_parser.proofs.TokenSteps
 use Rattle.px_parser.proofs.KindLaws.{other_kind}
 use Rattle.px_parser.proofs.ForkSteps.{Nowhere}

@@ -17,9 +17,9 @@ use Rattle.px_tree.specs.declared.modules.FunctionKind.{FunctionKind}
 use Rattle.px_tree.specs.declared.modules.FunctionKind.TheVariants as function_kind
 use Rattle.px_tree.specs.declared.modules.ResultType.{ResultType}
 use Rattle.px_tree.specs.declared.modules.ResultType.TheVariants as result_type
-use Rattle.px_exprs.specs.Terminals.{Terminal, HasKind, IsKeyword, IsOperator}
+use Rattle.px_lexer.specs.Terminals.{Terminal, HasKind, IsKeyword, IsOperator}
 use Rattle.px_exprs.specs.Readings.{Agree}
-use Rattle.px_exprs.proofs.Codes.{one_kind}
+use Rattle.px_lexer.proofs.OneToken.{one_kind}
 use Rattle.px_exprs.proofs.Agreement.{agree_carried, agree_back}
 use Rattle.px_exprs.proofs.Keeping.{kind_carried}
 use Rattle.px_parser.specs.Shapes.{Mode, Seq, Either, Many}

@@ -8,10 +8,11 @@ use Rattle.px_tree.specs.declared.expressions.Expr.{Expr}
 use Rattle.px_tree.specs.declared.statements.Arm.{Arm}
 use Rattle.px_tree.specs.declared.statements.Stmt.{Stmt}
 use Rattle.px_tree.specs.declared.statements.StmtForm.{StmtForm}
-use Rattle.px_exprs.specs.Terminals.{Terminal, IsKeyword, IsOperator, IsName}
+use Rattle.px_lexer.specs.Terminals.{Terminal, IsKeyword, IsOperator, IsName}
 use Rattle.px_exprs.specs.Codes.{Past}
 use Rattle.px_exprs.specs.Readings.{Stops}
-use Rattle.px_exprs.proofs.Codes.{code_here, one_name, one_kind}
+use Rattle.px_exprs.proofs.Codes.{code_here}
+use Rattle.px_lexer.proofs.OneToken.{one_name, one_kind}
 use Rattle.px_exprs.proofs.Keeping.{name_carried, kind_carried}
 use Rattle.px_exprs.proofs.Stops.{kind_stops}
 use Rattle.px_parser.specs.Shapes.{Mode, Shape, Here, Seq, Many, Of, After, Before, Maybe}

@@ -12,17 +12,16 @@ use Rattle.px_tree.specs.declared.statements.StmtForm.{StmtForm}
 use Rattle.px_tree.specs.declared.statements.StmtForm.TheVariants as statement
 use Rattle.px_lexer.specs.declared.token_list.Tokens.{Tokens}
 use Rattle.px_exprs.specs.declared.readings.Unread.{Unread}
-use Rattle.px_exprs.specs.Inputs.{terminals_of}
+use Rattle.px_lexer.specs.Terminals.{terminals_of, Terminal, IsKeyword, IsOperator, IsName, IsAt}
 use Rattle.px_exprs.specs.Words.{IsStuckAt}
 use Rattle.px_parser.specs.declared.readings.Found.{Found}
 use Rattle.px_parser.specs.Listings.{IsListing}
 use Rattle.px_parser.proofs.TokenSteps.{here_by}
 use Rattle.px_parser.proofs.TokenShapes.{unread_at}
-use Rattle.px_exprs.specs.Terminals.{Terminal, IsKeyword, IsOperator, IsName, IsAt}
 use Rattle.px_exprs.specs.Codes.{Past}
 use Rattle.px_exprs.specs.Runs.{nesting_limit}
 use Rattle.px_exprs.proofs.Agreement.{agree_back}
-use Rattle.px_exprs.proofs.Codes.{one_place}
+use Rattle.px_lexer.proofs.OneToken.{one_place}
 use Rattle.px_exprs.proofs.Keeping.{name_carried, kind_carried}
 use Rattle.px_parser.specs.Shapes.{Mode, Shape, Token, Soft, Here, Placed, Seq, Either, Many, Of, After, Before}
 use Rattle.px_parser.specs.Parsing.{strict}
@@ -388,7 +387,7 @@ IsFor ts i room l = IsReading (Token (kind.Keyword word.For)) Anywhere ts i room
 abbrev IsIn : List Terminal → ℕ → ℕ → ℕ → Type 0
 IsIn ts i room l = IsReading (Token (kind.Keyword word.In)) Anywhere ts i room tt l
 
-abbrev AreLoopTargets : List Terminal → ℕ → ℕ → Expr → ℕ → Type 0
+abbrev pub AreLoopTargets : List Terminal → ℕ → ℕ → Expr → ℕ → Type 0
 AreLoopTargets ts i room e l = IsReading LoopTargets (IsBefore (kind.Keyword word.In)) ts i room e l
 
 pub step_for_word : (ts : List Terminal) (i room : ℕ) → Step (Token (kind.Keyword word.For)) Anywhere (For Block) Anywhere ts i i room

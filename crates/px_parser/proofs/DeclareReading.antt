@@ -11,7 +11,7 @@ use Rattle.px_tree.specs.declared.statements.Declarator.{Declarator}
 use Rattle.px_tree.specs.declared.statements.Stmt.{Stmt}
 use Rattle.px_tree.specs.declared.statements.StmtForm.TheVariants as statement
 use Rattle.px_exprs.specs.declared.readings.Unread.{Unread}
-use Rattle.px_exprs.specs.Terminals.{Terminal, HasKind, IsOperator, IsName, IsAt}
+use Rattle.px_lexer.specs.Terminals.{Terminal, HasKind, IsOperator, IsName, IsAt}
 use Rattle.px_exprs.specs.Runs.{nesting_limit}
 use Rattle.px_exprs.proofs.Agreement.{agree_back}
 use Rattle.px_exprs.proofs.Codes.{code_here}

@@ -7,8 +7,7 @@ use Rattle.px_lexer.specs.declared.token_list.TokenKind.TheVariants as kind
 use Rattle.px_tree.specs.declared.expressions.Expr.{Expr}
 use Rattle.px_exprs.specs.declared.readings.Unread.{Unread}
 use Rattle.px_exprs.specs.declared.readings.Unread.TheVariants as unread
-use Rattle.px_exprs.specs.Terminals.{Terminal, IsOperator}
-use Rattle.px_exprs.specs.Inputs.{terminals_of}
+use Rattle.px_lexer.specs.Terminals.{Terminal, IsOperator, terminals_of}
 use Rattle.px_exprs.specs.Codes.{code_at, begins_code, Past}
 use Rattle.px_exprs.specs.Readings.{Agree}
 use Rattle.px_exprs.specs.Runs.{nesting_limit}
@@ -17,7 +16,7 @@ use Rattle.px_exprs.proofs.Agreement.{agree_back}
 use Rattle.px_exprs.proofs.BeginningCodes.{expr_codes}
 use Rattle.px_exprs.proofs.Keeping.{kind_carried}
 use Rattle.px_exprs.proofs.Stops.{code_carried}
-use Rattle.px_exprs.proofs.TokenReading.{length_terminals}
+use Rattle.px_lexer.proofs.TokenAccess.{length_terminals}
 use Rattle.px_parser.specs.declared.readings.Found.{Found}
 use Rattle.px_parser.specs.Shapes.{Elements, Many}
 use Rattle.px_parser.specs.Parsing.{strict}

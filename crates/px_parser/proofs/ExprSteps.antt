@@ -8,8 +8,7 @@ use Rattle.px_lexer.specs.declared.token_list.TokenKind.TheVariants as kind
 use Rattle.px_tree.specs.declared.expressions.Expr.{Expr}
 use Rattle.px_exprs.specs.declared.readings.Unread.{Unread}
 use Rattle.px_exprs.specs.declared.readings.Unread.TheVariants as unread
-use Rattle.px_exprs.specs.Terminals.{Terminal, IsOperator, IsAt}
-use Rattle.px_exprs.specs.Inputs.{terminals_of}
+use Rattle.px_lexer.specs.Terminals.{Terminal, IsOperator, IsAt, terminals_of}
 use Rattle.px_exprs.specs.Codes.{code_at, Past}
 use Rattle.px_exprs.specs.Readings.{Stops}
 use Rattle.px_parser.specs.Shapes.{Here, Gives, Seq, Either, Elements}

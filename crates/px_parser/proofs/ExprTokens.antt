@@ -14,7 +14,7 @@ use Rattle.px_tree.specs.declared.expressions.Trailer.{Trailer}
 use Rattle.px_tree.specs.declared.expressions.Argument.{Argument}
 use Rattle.px_tree.specs.declared.expressions.Item.{Item}
 use Rattle.px_tree.specs.declared.expressions.Entry.{Entry}
-use Rattle.px_exprs.specs.Terminals.{Terminal, HasKind, IsName}
+use Rattle.px_lexer.specs.Terminals.{Terminal, HasKind, IsName}
 use Rattle.px_exprs.specs.Typings.{AreNames, IsBase, IsAxis, AreAxes, HasAxes, HasConst, IsTyping}
 use Rattle.px_exprs.specs.Grammar.{Level, AreTexts, IsCompareOp, IsExpr, IsOr, AreOrs, IsAnd, AreAnds, IsNot, IsCompare, AreComparisons, IsBinary, AreLinks, IsUnary, IsPrimary, AreTrailers, IsTrailer, AreArguments, IsArgument, AreItems, IsItem, MaybeExpr, HasComma, AreExprs, AreEntries, IsAtom, HasCommas}
 use Rattle.px_exprs.specs.Codes.{kind_code, code_at}

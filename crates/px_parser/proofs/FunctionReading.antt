@@ -7,15 +7,14 @@ use Rattle.px_lexer.specs.declared.token_list.TokenKind.TheVariants as kind
 use Rattle.px_lexer.specs.declared.token_list.Tokens.{Tokens}
 use Rattle.px_exprs.specs.declared.readings.Unread.{Unread}
 use Rattle.px_exprs.specs.declared.readings.Unread.TheVariants as unread
-use Rattle.px_exprs.specs.Inputs.{terminals_of}
-use Rattle.px_exprs.specs.Terminals.{Terminal, IsName, IsKeyword, IsAt}
+use Rattle.px_lexer.specs.Terminals.{terminals_of, Terminal, IsName, IsKeyword, IsAt}
 use Rattle.px_exprs.specs.Readings.{Stops}
 use Rattle.px_exprs.specs.Words.{IsStuckAt, IsNamed}
 use Rattle.px_exprs.proofs.Agreement.{agree_back}
 use Rattle.px_exprs.proofs.Keeping.{kind_carried}
 use Rattle.px_parser.specs.declared.readings.Found.{Found}
 use Rattle.px_parser.specs.Shapes.{Shape, Token, Seq, Either, Of, After, Or}
-use Rattle.px_parser.specs.Readings.{IsReading, IsUnread, IsStuck, Reads, Anywhere}
+use Rattle.px_parser.specs.Readings.{IsReading, IsUnread, IsStuck, Reads, Anywhere, IsMisread, ReadsWithin}
 use Rattle.px_parser.specs.Listings.{IsListing}
 use Rattle.px_parser.specs.Ends.{EndsNames, EndsParameter, IsBefore}
 use Rattle.px_parser.specs.Parts.{NamesBy}
@@ -23,7 +22,7 @@ use Rattle.px_parser.specs.ModuleGrammar.{Dotted, Truth, DecoratorLine, NotNone}
 use Rattle.px_parser.proofs.Shapely.{Good, good_token, good_here, good_of, good_seq, good_or, sound_token}
 use Rattle.px_parser.proofs.Onlies.{Leads, Clash, Only, leads_of, leads_anywhere, only_of, only_token, only_before, only_seq}
 use Rattle.px_parser.proofs.Steps.{Step, Local, Never, Alike, fails, step_twice, step_alike, stuck_here}
-use Rattle.px_parser.proofs.TokenShapes.{unread_at}
+use Rattle.px_parser.proofs.TokenShapes.{unread_at, misread_by}
 use Rattle.px_parser.proofs.KindLaws.{IsNot, kind_missing}
 use Rattle.px_parser.proofs.ReadingSteps.{read_both, read_of, read_left, read_right, read_after, read_before, read_placed, read_here, read_absent, read_ends, inside_terminals, kind_read, step_front, step_back, step_made, step_word, step_after, step_before, step_end, step_number, step_placed, step_or, step_anywhere, ended_stuck, local_kind}
 use Rattle.px_parser.proofs.ImportShapes.{good_dotted, only_dotted}
@@ -164,12 +163,20 @@ unfolding NotNone
 no_not_none tokens i room r inside none h =
     absent_reads {T = IsBefore (kind.Keyword word.Not)} {R = IsNot (kind.Keyword word.Not)} room false r (good_of _ good_not_none_words) (leads_of _ leads_not_none_words) (kind_missing _) none local_parameter (inside_terminals tokens i inside) h
 
-pub not_without_none : (tokens : Tokens) (i l room : ℕ) (u : Unread) → IsListing tokens → IsKeyword (terminals_of tokens) i word.Not → l ≡ suc i → IsUnread (Token (kind.Keyword word.None)) Anywhere (terminals_of tokens) l room u
-    → IsUnread NotNone EndsParameter (terminals_of tokens) i room u
+pub not_without_none : (tokens : Tokens) (i l room : ℕ) (u : Unread) → IsListing tokens → IsKeyword (terminals_of tokens) i word.Not → l ≡ suc i → IsMisread (Token (kind.Keyword word.None)) Anywhere (terminals_of tokens) l room u
+    → IsMisread NotNone EndsParameter (terminals_of tokens) i room u
 unfolding NotNone
 not_without_none tokens i l room u listing here e h =
-    fails (step_twice (step_anywhere (good_token _)) (step_twice (step_back (good_token _) (good_token _) (only_token _ Anywhere) (leads_anywhere (Token (kind.Keyword word.None)) EndsParameter) (kind_read tokens i l room listing here (λ f. cc) e))
-    (step_twice (step_made _ good_not_none_words) (step_or false (good_of _ good_not_none_words) not_ends_none here)))) u h
+    misread_by (step_twice (step_anywhere (good_token _)) (step_twice (step_back (good_token _) (good_token _) (only_token _ Anywhere) (leads_anywhere (Token (kind.Keyword word.None)) EndsParameter) (kind_read tokens i l room listing here (λ f. cc) e))
+    (step_twice (step_made _ good_not_none_words) (step_or false (good_of _ good_not_none_words) not_ends_none here)))) h
+
+-- it is stuck, if it isn't read
+pub not_none_told : (ts : List Terminal) (from to room : ℕ) (told : Bool) (r : Answer (Found Bool) Unread) → MatchResult r (λ found. (found.tree ≡ told) × (found.to ≡ to) × EndsParameter ts to) (λ u. IsStuckAt to u × (EndsParameter ts to → ⊥))
+    → Reads NotNone EndsParameter ts from room r → ReadsWithin NotNone EndsParameter ts from room r
+not_none_told ts from to room told (Ok found) m h = h
+not_none_told ts from to room told (Err (unread.Stuck k)) m h = record { at = k; is = refl; stuck = h }
+not_none_told ts from to room told (Err (unread.TooDeep k)) m h = absurd m.0
+not_none_told ts from to room told (Err unread.NoMemory) m h = absurd m.0
 
 pub not_none_reads : (tokens : Tokens) (i l j room : ℕ) (r : Answer (Found Bool) Unread) → IsListing tokens → IsKeyword (terminals_of tokens) i word.Not → l ≡ suc i → IsReading (Token (kind.Keyword word.None)) Anywhere (terminals_of tokens) l room tt j
     → MatchResult r (λ found. (found.tree ≡ true) × (found.to ≡ j) × EndsParameter (terminals_of tokens) j) (λ u. IsStuckAt j u × (EndsParameter (terminals_of tokens) j → ⊥)) → Reads NotNone EndsParameter (terminals_of tokens) i room r

@@ -19,15 +19,16 @@ use Rattle.px_tree.specs.declared.modules.ExceptionForm.TheVariants as exception
 use Rattle.px_tree.specs.declared.modules.Lock.{Lock}
 use Rattle.px_tree.specs.declared.modules.Lock.TheVariants as lock
 use Rattle.px_exprs.specs.Codes.{code_at, kind_code, begins_code, Past}
-use Rattle.px_exprs.specs.Terminals.{Terminal, HasKind, IsName, IsKeyword, IsOperator}
+use Rattle.px_lexer.specs.Terminals.{Terminal, HasKind, IsName, IsKeyword, IsOperator}
 use Rattle.px_exprs.specs.Readings.{Stops, Agree}
 use Rattle.px_exprs.specs.Typings.{AreNames, IsBase, HasConst, IsTyping}
 use Rattle.px_exprs.proofs.BeginningCodes.{expr_codes}
-use Rattle.px_exprs.proofs.Codes.{code_here, one_name}
+use Rattle.px_exprs.proofs.Codes.{code_here}
+use Rattle.px_lexer.proofs.OneToken.{one_name}
 use Rattle.px_exprs.proofs.Keeping.{name_carried}
 use Rattle.px_exprs.proofs.Stops.{code_carried, kind_stops}
 use Rattle.px_exprs.proofs.Telling.{stop_here}
-use Rattle.px_exprs.proofs.TokenReading.{name_kind}
+use Rattle.px_lexer.proofs.TokenAccess.{name_kind}
 use Rattle.px_exprs.proofs.TypeReading.{base_forward}
 use Rattle.px_parser.specs.Shapes.{Mode, Shape, Word, Sign, Name, Soft, Placed, Then, Seq, Either, Many, Of, After, Before, Or, Maybe, Nested}
 use Rattle.px_parser.specs.Readings.{Anywhere}

@@ -13,11 +13,10 @@ use Rattle.px_tree.specs.declared.modules.ResultType.{ResultType}
 use Rattle.px_tree.specs.declared.modules.ExceptionForm.{ExceptionForm}
 use Rattle.px_tree.specs.declared.modules.Lock.{Lock}
 use Rattle.px_exprs.specs.declared.readings.Unread.{Unread}
-use Rattle.px_exprs.specs.Inputs.{terminals_of}
+use Rattle.px_lexer.specs.Terminals.{terminals_of, Terminal, IsName, IsOperator, IsAt}
 use Rattle.px_exprs.specs.Runs.{nesting_limit}
-use Rattle.px_exprs.specs.Terminals.{Terminal, IsName, IsOperator, IsAt}
 use Rattle.px_exprs.specs.Readings.{Stops}
-use Rattle.px_exprs.proofs.Codes.{one_name}
+use Rattle.px_lexer.proofs.OneToken.{one_name}
 use Rattle.px_exprs.proofs.Keeping.{kind_carried}
 use Rattle.px_parser.specs.Shapes.{Shape, Token, Placed, Then, Many}
 use Rattle.px_parser.specs.Parsing.{strict}

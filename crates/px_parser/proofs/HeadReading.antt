@@ -9,10 +9,9 @@ use Rattle.px_tree.specs.declared.modules.FunctionKind.TheVariants as function_k
 use Rattle.px_tree.specs.declared.modules.ResultType.{ResultType}
 use Rattle.px_tree.specs.declared.modules.ResultType.TheVariants as result_type
 use Rattle.px_exprs.specs.declared.readings.Unread.{Unread}
-use Rattle.px_exprs.specs.Inputs.{terminals_of}
-use Rattle.px_exprs.specs.Terminals.{Terminal, IsName, IsKeyword, IsOperator}
+use Rattle.px_lexer.specs.Terminals.{terminals_of, Terminal, IsName, IsKeyword, IsOperator}
 use Rattle.px_exprs.specs.Readings.{Stops}
-use Rattle.px_exprs.proofs.Codes.{one_name}
+use Rattle.px_lexer.proofs.OneToken.{one_name}
 use Rattle.px_parser.specs.Shapes.{Mode, Shape, Token, Word, Gives, Seq, Either, Of}
 use Rattle.px_parser.specs.Readings.{IsReading, IsUnread, IsStuck, Anywhere}
 use Rattle.px_parser.specs.Listings.{IsListing}

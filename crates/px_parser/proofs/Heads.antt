@@ -5,7 +5,7 @@ use Rattle.px_lexer.specs.declared.spelling.Keyword.{Keyword}
 use Rattle.px_lexer.specs.declared.spelling.Keyword.TheVariants as word
 use Rattle.px_lexer.specs.declared.token_list.TokenKind.{TokenKind}
 use Rattle.px_lexer.specs.declared.token_list.TokenKind.TheVariants as kind
-use Rattle.px_exprs.specs.Terminals.{Terminal, HasKind, IsKeyword}
+use Rattle.px_lexer.specs.Terminals.{Terminal, HasKind, IsKeyword}
 use Rattle.px_exprs.specs.Codes.{kind_code, code_of, code_at, word_code}
 use Rattle.px_exprs.specs.Readings.{Stops, Agree}
 use Rattle.px_parser.specs.Ends.{EndsArms}

@@ -9,8 +9,7 @@ use Rattle.px_tree.specs.declared.modules.ImportedName.{ImportedName}
 use Rattle.px_tree.specs.declared.modules.ImportForm.{ImportForm}
 use Rattle.px_tree.specs.declared.modules.ImportForm.TheVariants as imports
 use Rattle.px_exprs.specs.declared.readings.Unread.{Unread}
-use Rattle.px_exprs.specs.Inputs.{terminals_of}
-use Rattle.px_exprs.specs.Terminals.{Terminal, HasKind, IsKeyword, IsOperator, IsAt}
+use Rattle.px_lexer.specs.Terminals.{terminals_of, Terminal, HasKind, IsKeyword, IsOperator, IsAt}
 use Rattle.px_exprs.specs.Readings.{Stops}
 use Rattle.px_parser.specs.Shapes.{Shape, Token, Name, Here, Seq, After, Before}
 use Rattle.px_parser.specs.Readings.{IsReading, IsUnread, IsStuck, Anywhere}
@@ -22,9 +21,9 @@ use Rattle.px_parser.proofs.Shapely.{Good, good_name, good_of, good_after, good_
 use Rattle.px_parser.proofs.Onlies.{Clash, leads_anywhere, only_name, only_after}
 use Rattle.px_parser.proofs.Steps.{Step, fails, step_left, step_right, step_twice, never_by, stuck_here}
 use Rattle.px_parser.proofs.KindLaws.{IsNot, kind_missing, other_kind, kinds_apart}
-use Rattle.px_parser.proofs.ReadingSteps.{read_both, read_of, read_left, read_right, read_after, read_placed, read_end, read_absent, read_ends, inside_terminals, kind_read, step_front, step_back, step_made, step_word, step_after, step_placed, step_numbered_end, step_or, step_ends, step_anywhere, ended_stuck, local_kind, local_other, stuck_of}
+use Rattle.px_parser.proofs.ReadingSteps.{read_both, read_of, read_left, read_right, read_after, read_placed, read_here, read_end, read_absent, read_ends, inside_terminals, kind_read, step_front, step_back, step_made, step_word, step_after, step_placed, step_number, step_numbered_end, step_or, step_ends, step_anywhere, ended_stuck, local_kind, local_other, stuck_of}
 use Rattle.px_parser.proofs.SeparatedSteps.{IsSeparated, step_separated_first, step_separated, separated_stuck}
-use Rattle.px_parser.proofs.ImportShapes.{BeginsWhole, good_dotted, good_alias, good_import_word, good_imported, only_import_word, only_imported, only_dotted, only_alias, leads_import_word, leads_line_alias, newline_ends_alias, SomeImported, good_imported_names, PartNames, good_part_names, leads_part_names, SomeImport, good_some_import, only_some_import, good_whole_import, good_part_import, leads_whole_import, leads_part_import, whole_or_part, leads_end, NumberedLine, good_numbered_line, solid_numbered_line}
+use Rattle.px_parser.proofs.ImportShapes.{BeginsWhole, good_dotted, good_alias, good_import_word, good_imported, only_import_word, only_imported, only_dotted, only_alias, leads_import_word, leads_line_alias, newline_ends_alias, SomeImported, good_imported_names, PartNames, good_part_names, leads_part_names, SomeImport, good_some_import, only_some_import, good_whole_import, good_part_import, leads_whole_import, leads_part_import, whole_or_part, leads_end, NumberedLine, good_numbered_line, solid_numbered_line, NameAndAlias, good_both_names, solid_both_names}
 
 -- Names
 
@@ -82,18 +81,22 @@ import_word_stuck tokens i room inside no_import no_cimport =
 
 -- Imported names
 
-pub imported_first : (ts : List Terminal) (i room : ℕ) (u : Unread) → IsUnread Name Anywhere ts i room u → IsUnread Imported EndsAlias ts i room u
+behind_both : {ts : List Terminal} {i l room : ℕ} {A : Type 0} {X : Shape A} {S : Stops} → Step X S NameAndAlias EndsAlias ts i l room → Step X S Imported EndsAlias ts i l room
 unfolding Imported
-imported_first ts i room u h = fails (step_twice (step_front good_name good_alias (leads_anywhere Alias EndsAlias)) (step_made _ (good_seq good_name good_alias))) u h
+behind_both step =
+    let placed = good_placed solid_both_names good_both_names in
+    step_twice step (step_twice (step_placed good_both_names solid_both_names) (step_twice (step_number placed) (step_made _ (good_seq good_here placed))))
+
+pub imported_first : (ts : List Terminal) (i room : ℕ) (u : Unread) → IsUnread Name Anywhere ts i room u → IsUnread Imported EndsAlias ts i room u
+imported_first ts i room u h = fails (behind_both (step_front good_name good_alias (leads_anywhere Alias EndsAlias))) u h
 
 pub imported_second : (ts : List Terminal) (i l room : ℕ) (name : List ℕ) (u : Unread) → IsReading Name Anywhere ts i room name l → IsUnread Alias EndsAlias ts l room u → IsUnread Imported EndsAlias ts i room u
-unfolding Imported
-imported_second ts i l room name u reading h = fails (step_twice (step_back good_name good_alias (only_name Anywhere) (leads_anywhere Alias EndsAlias) reading) (step_made _ (good_seq good_name good_alias))) u h
+imported_second ts i l room name u reading h = fails (behind_both (step_back good_name good_alias (only_name Anywhere) (leads_anywhere Alias EndsAlias) reading)) u h
 
-pub imported_read : {ts : List Terminal} {i l j room : ℕ} {name : List ℕ} {other : Option (List ℕ)} → IsReading Name Anywhere ts i room name l → IsReading Alias EndsAlias ts l room other j
-    → IsReading Imported EndsAlias ts i room (record { name = name; alias = other }) j
+pub imported_read : {ts : List Terminal} {i l j room : ℕ} {at : Span} {name : List ℕ} {other : Option (List ℕ)} → IsAt ts i at → IsReading Name Anywhere ts i room name l → IsReading Alias EndsAlias ts l room other j
+    → IsReading Imported EndsAlias ts i room (record { number = i; at = at; name = name; alias = other }) j
 unfolding Imported
-imported_read name other = read_of _ (read_both name other)
+imported_read placed name other = read_of _ (read_here (read_placed placed (read_both name other)))
 
 -- Some names
 

@@ -1,20 +1,20 @@
 -- Imports as shapes: each is sound, can begin anywhere, and is read in one way.
-use Rattle.std.proofs.Common.{◌⊎◌, inl, inr, ℕ, Bool, List}
+use Rattle.std.proofs.Common.{◌⊎◌, inl, inr, ℕ, Bool, List, Option}
 use Rattle.px_lexer.specs.declared.spelling.Keyword.TheVariants as word
 use Rattle.px_lexer.specs.declared.spelling.Operator.TheVariants as sign
 use Rattle.px_lexer.specs.declared.token_list.TokenKind.{TokenKind}
 use Rattle.px_lexer.specs.declared.token_list.TokenKind.TheVariants as kind
 use Rattle.px_tree.specs.declared.modules.ImportedName.{ImportedName}
 use Rattle.px_tree.specs.declared.modules.ImportForm.{ImportForm}
-use Rattle.px_exprs.specs.Terminals.{Terminal, HasKind, IsKeyword}
+use Rattle.px_lexer.specs.Terminals.{Terminal, HasKind, IsKeyword}
 use Rattle.px_exprs.specs.Readings.{Stops}
-use Rattle.px_parser.specs.Shapes.{Shape, Name, Here, Seq, Either, Before, Separated}
+use Rattle.px_parser.specs.Shapes.{Shape, Name, Here, Placed, Seq, Either, Before, Separated}
 use Rattle.px_parser.specs.Readings.{Anywhere}
 use Rattle.px_parser.specs.Ends.{EndsAlias, EndsNames, IsBefore}
 use Rattle.px_parser.specs.ModuleGrammar.{Dotted, Alias, ImportWord, Imported, WholeImport, PartImport, ImportLine}
 use Rattle.px_parser.proofs.Shapely.{Solid, Good, good_name, good_token, good_here, good_seq, good_either, good_of, good_after, good_before, good_maybe, good_separated, good_placed, sound_name, sound_token, sound_here, sound_of, sound_after}
 use Rattle.px_parser.proofs.Onlies.{Leads, Clash, Only, leads_here, leads_placed, leads_of, leads_either, leads_token, leads_after, leads_gives, leads_anywhere, leads_wider, only_name, only_token, only_here, only_of, only_seq, only_either, only_placed, only_after, only_before, only_maybe, only_narrower}
-use Rattle.px_parser.proofs.KindLaws.{kind_missing, other_kind, kinds_apart, solid_token, solid_name, solid_front, solid_placed, solid_of, solid_either, solid_after, solid_separated, leads_first, only_separated}
+use Rattle.px_parser.proofs.KindLaws.{kind_missing, other_kind, kinds_apart, solid_token, solid_name, solid_front, solid_back, solid_placed, solid_of, solid_either, solid_after, solid_separated, leads_first, only_separated}
 
 -- Names
 
@@ -67,17 +67,29 @@ only_import_word S =
 
 -- Imported names
 
+abbrev pub NameAndAlias : Shape (List ℕ × Option (List ℕ))
+NameAndAlias = Seq Name Alias
+
+pub good_both_names : Good NameAndAlias
+good_both_names = good_seq good_name good_alias
+
+pub solid_both_names : Solid NameAndAlias
+solid_both_names = solid_front solid_name good_alias.sound
+
 pub good_imported : Good Imported
 unfolding Imported
-good_imported = good_of _ (good_seq good_name good_alias)
+good_imported = good_of _ (good_seq good_here (good_placed solid_both_names good_both_names))
 
 pub solid_imported : Solid Imported
 unfolding Imported
-solid_imported = solid_of _ (solid_front solid_name good_alias.sound)
+solid_imported = solid_of _ (solid_back sound_here (solid_placed solid_both_names))
 
 pub only_imported : Only Imported EndsAlias
 unfolding Imported
-only_imported = only_of _ (only_seq sound_name good_alias.sound (only_name Anywhere) (leads_anywhere Alias EndsAlias) only_alias)
+only_imported =
+    let both : Only NameAndAlias EndsAlias = only_seq sound_name good_alias.sound (only_name Anywhere) (leads_anywhere Alias EndsAlias) only_alias in
+    let placed : Only (Placed NameAndAlias) EndsAlias = only_placed solid_both_names both in
+    only_of _ (only_seq sound_here (good_placed solid_both_names good_both_names).sound (only_here Anywhere) (leads_anywhere (Placed NameAndAlias) EndsAlias) placed)
 
 abbrev pub SomeImported : Shape (List ImportedName)
 SomeImported = Separated (kind.Operator sign.Comma) Imported

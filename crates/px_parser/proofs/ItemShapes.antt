@@ -8,7 +8,7 @@ use Rattle.px_tree.specs.declared.statements.Stmt.{Stmt}
 use Rattle.px_tree.specs.declared.modules.Function.{Function}
 use Rattle.px_tree.specs.declared.modules.ModuleItem.{ModuleItem}
 use Rattle.px_tree.specs.declared.modules.ModuleItem.TheVariants as module_item
-use Rattle.px_exprs.specs.Terminals.{Terminal, HasKind, IsKeyword, IsOperator}
+use Rattle.px_lexer.specs.Terminals.{Terminal, HasKind, IsKeyword, IsOperator}
 use Rattle.px_exprs.specs.Readings.{Stops, Agree}
 use Rattle.px_exprs.proofs.Agreement.{agree_carried, agree_back, agree_same}
 use Rattle.px_exprs.proofs.Keeping.{kind_carried}

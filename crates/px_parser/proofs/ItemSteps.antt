@@ -10,8 +10,7 @@ use Rattle.px_tree.specs.declared.modules.Import.{Import}
 use Rattle.px_tree.specs.declared.modules.ModuleItem.{ModuleItem}
 use Rattle.px_tree.specs.declared.modules.ModuleItem.TheVariants as module_item
 use Rattle.px_exprs.specs.declared.readings.Unread.{Unread}
-use Rattle.px_exprs.specs.Terminals.{Terminal, HasKind, IsKeyword, IsOperator}
-use Rattle.px_exprs.specs.Inputs.{terminals_of}
+use Rattle.px_lexer.specs.Terminals.{Terminal, HasKind, IsKeyword, IsOperator, terminals_of}
 use Rattle.px_exprs.specs.Runs.{nesting_limit}
 use Rattle.px_exprs.proofs.Agreement.{agree_back, agree_same, agree_carried}
 use Rattle.px_exprs.proofs.Keeping.{kind_carried}
@@ -141,12 +140,12 @@ places_statement ts i room no_line none nor = record {
       | inr h ↦ nor (inr (kind_carried (suc i) (agree_back us ts agree) h (omega arith)))
     ]
 
-pub places_other : (ts : List Terminal) (i room : ℕ) → (HasKind ts i kind.Newline → ⊥) → (IsOperator ts i sign.At → ⊥) → (IsKeyword ts i word.Def → ⊥) → (IsKeyword ts i word.Cdef → ⊥) → (IsKeyword ts i word.Cpdef → ⊥)
-    → (IsKeyword ts i word.Import → ⊥) → (IsKeyword ts i word.Cimport → ⊥) → (IsKeyword ts i word.From → ⊥) → PlacesItem Statements ts i room
-places_other ts i room no_line no_at no_def no_cdef no_cpdef no_import no_cimport no_from =
+pub places_other : (ts : List Terminal) (i room : ℕ) → (HasKind ts i kind.Newline → ⊥) → (IsOperator ts i sign.At ⊎ (IsKeyword ts i word.Def ⊎ IsKeyword ts i word.Cpdef) → ⊥) → (IsKeyword ts i word.Cdef → ⊥)
+    → ((IsKeyword ts i word.Import ⊎ IsKeyword ts i word.Cimport) ⊎ IsKeyword ts i word.From → ⊥) → PlacesItem Statements ts i room
+places_other ts i room no_line no_function no_cdef no_import =
     places_statement ts i room no_line
-    (λ h. elim (h) [ inl a ↦ no_at a | inr (inl a) ↦ no_def a | inr (inr (inl a)) ↦ no_cdef a | inr (inr (inr a)) ↦ no_cpdef a ])
-    (λ h. elim (h) [ inl (inl a) ↦ no_import a | inl (inr a) ↦ no_cimport a | inr a ↦ no_from a ])
+    (λ h. elim (h) [ inl a ↦ no_function (inl a) | inr (inl a) ↦ no_function (inr (inl a)) | inr (inr (inl a)) ↦ no_cdef a | inr (inr (inr a)) ↦ no_function (inr (inr a)) ])
+    no_import
 
 -- What begins with `cdef`
 

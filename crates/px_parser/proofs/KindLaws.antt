@@ -2,11 +2,11 @@
 use Rattle.std.proofs.Common.{◌≡◌, ℕ, suc, List, arith}
 use Rattle.px_lexer.specs.declared.token_list.TokenKind.{TokenKind}
 use Rattle.px_lexer.specs.declared.token_list.TokenKind.TheVariants as kind
-use Rattle.px_exprs.specs.Terminals.{Terminal, HasKind, IsName}
+use Rattle.px_lexer.specs.Terminals.{Terminal, HasKind, IsName}
 use Rattle.px_exprs.specs.Readings.{Stops}
-use Rattle.px_exprs.proofs.Codes.{one_kind}
+use Rattle.px_lexer.proofs.OneToken.{one_kind}
 use Rattle.px_exprs.proofs.Keeping.{kind_carried}
-use Rattle.px_exprs.proofs.TokenReading.{name_kind}
+use Rattle.px_lexer.proofs.TokenAccess.{name_kind}
 use Rattle.px_parser.specs.Shapes.{Shape, Token, Name, Placed, Seq, Either, Of, After, Separated}
 use Rattle.px_parser.specs.Readings.{Anywhere}
 use Rattle.px_parser.specs.Ends.{IsBefore}

@@ -1,6 +1,6 @@
 -- What a line and a declaration begin with, among the statements.
 use Rattle.std.proofs.Common.{ℕ, inl, inr, List}
-use Rattle.px_exprs.specs.Terminals.{Terminal}
+use Rattle.px_lexer.specs.Terminals.{Terminal}
 use Rattle.px_exprs.specs.Readings.{Stops}
 use Rattle.px_parser.specs.StatementGrammar.{Line, Declare}
 use Rattle.px_parser.proofs.Onlies.{Leads, leads_wider}

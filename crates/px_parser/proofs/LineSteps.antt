@@ -5,7 +5,7 @@ use Rattle.px_lexer.specs.declared.token_list.TokenKind.{TokenKind}
 use Rattle.px_lexer.specs.declared.token_list.TokenKind.TheVariants as kind
 use Rattle.px_tree.specs.declared.statements.Stmt.{Stmt}
 use Rattle.px_exprs.specs.declared.readings.Unread.{Unread}
-use Rattle.px_exprs.specs.Terminals.{Terminal, HasKind, IsOperator}
+use Rattle.px_lexer.specs.Terminals.{Terminal, HasKind, IsOperator}
 use Rattle.px_exprs.specs.Runs.{nesting_limit}
 use Rattle.px_exprs.proofs.Agreement.{agree_back}
 use Rattle.px_exprs.proofs.Keeping.{kind_carried}

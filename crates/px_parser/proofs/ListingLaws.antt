@@ -19,14 +19,13 @@ use Rattle.px_lexer.specs.declared.token_list.TokenKind.{TokenKind}
 use Rattle.px_lexer.specs.declared.token_list.TokenKind.TheVariants as kind
 use Rattle.px_lexer.specs.Characters.{mark_len, characters, byte_of}
 use Rattle.px_lexer.specs.Spellings.{meaning_in, is_among}
-use Rattle.px_lexer.specs.Words.{continues_word, word_len, keywords, foreign_words, HasKind as HasWordKind}
+use Rattle.px_lexer.specs.Words.{continues_word, word_len, keywords, foreign_words, HasWordKind}
 use Rattle.px_lexer.specs.Signs.{sign_kind, operators}
 use Rattle.px_lexer.specs.Pieces.{Piece, IsPiece, HasLength, AreBetween, is_content}
 use Rattle.px_lexer.specs.Lines.{Line, pieces_of, has_content, indentation_end, level_of, last_level, open_levels, own_level, levels_of}
-use Rattle.px_lexer.specs.Tokens.{IsTokens, IsTokenOf, IsKind, string_kind, token_at, newline_at, token_behind, changes_at, level_changes, AreOfContent, AreOfLine, AreOfLines}
+use Rattle.px_lexer.specs.Tokens.{IsTokens, IsTokenOf, IsKind, string_kind, token_at, newline_at, token_behind, indentation_tokens, tokens_before_line, AreOfContent, AreOfLine, AreOfLines}
 use Rattle.px_tree.specs.Names.{IsFunctionName}
-use Rattle.px_exprs.specs.Terminals.{Terminal, terminal_of, terminals, Stands}
-use Rattle.px_exprs.specs.Inputs.{terminals_of}
+use Rattle.px_lexer.specs.Terminals.{Terminal, terminal_of, terminals, Stands, terminals_of}
 use Rattle.unicode_ident.proofs.Computing.{unicode_ident}
 use Rattle.px_exprs.proofs.InputLaws.{AreBytesOf, text_read, part, byte_further, all_left, all_right, input}
 use Rattle.px_parser.specs.Listings.{IsListing}
@@ -159,7 +158,7 @@ if_plain : (text : List ℕ) (b : Bool) (t : Token) → IsPlain text t → All (
 if_plain text true t p = All-cons (IsPlain text) t [] p (All-nil (IsPlain text))
 if_plain text false t p = All-nil (IsPlain text)
 
-changes_plain : (text levels : List ℕ) (level at : ℕ) → All (IsPlain text) (changes_at text levels level at)
+changes_plain : (text levels : List ℕ) (level at : ℕ) → All (IsPlain text) (indentation_tokens text levels level at)
 changes_plain text levels level at =
     All-append (IsPlain text) (if nat_lt (last_level levels) level then token_at text at at kind.Indent ∷ [] else [])
     (replicate (length (filter (nat_lt level) (open_levels levels))) (token_at text at at kind.Dedent))
@@ -169,9 +168,9 @@ changes_plain text levels level at =
 content_plain : (text levels : List ℕ) (ps : List Piece) (newline : Token) (tokens : List Token) → AreBytesOf (characters text) (drop (mark_len text) text) → All (IsPiece (characters text)) ps → IsPlain text newline
     → AreOfContent text levels ps newline tokens → All (IsPlain text) tokens
 content_plain text levels ps newline tokens read a p c =
-    All-same (IsPlain text) tokens (level_changes text levels ps ++ c.spelled ++ newline ∷ []) c.all
-    (All-append (IsPlain text) (level_changes text levels ps ++ c.spelled) (newline ∷ [])
-    (All-append (IsPlain text) (level_changes text levels ps) c.spelled (changes_plain text levels (level_of (characters text) ps) (indentation_end (characters text) ps))
+    All-same (IsPlain text) tokens (tokens_before_line text levels ps ++ c.spelled ++ newline ∷ []) c.all
+    (All-append (IsPlain text) (tokens_before_line text levels ps ++ c.spelled) (newline ∷ [])
+    (All-append (IsPlain text) (tokens_before_line text levels ps) c.spelled (changes_plain text levels (level_of (characters text) ps) (indentation_end (characters text) ps))
     (spelled_plain text read (filter (λ (q : Piece). is_content q.form) ps) c.spelled (All-filter (λ (q : Piece). is_content q.form) (IsPiece (characters text)) ps a) c.each))
     (All-cons (IsPlain text) newline [] p (All-nil (IsPlain text))))
 

@@ -12,26 +12,27 @@ use Rattle.px_tree.specs.declared.modules.ResultType.{ResultType}
 use Rattle.px_tree.specs.declared.modules.ResultType.TheVariants as result_type
 use Rattle.px_exprs.specs.declared.readings.Unread.{Unread}
 use Rattle.px_exprs.specs.declared.readings.Unread.TheVariants as unread
-use Rattle.px_exprs.specs.Terminals.{Terminal, IsName}
-use Rattle.px_exprs.specs.Inputs.{IsInput, terminals_of}
+use Rattle.px_lexer.specs.Terminals.{Terminal, IsName, terminals_of}
+use Rattle.px_exprs.specs.Inputs.{IsInput}
 use Rattle.px_exprs.specs.Readings.{Stops, Agree, HasShallow as FormShallow}
 use Rattle.px_exprs.specs.Runs.{nesting_limit}
 use Rattle.px_exprs.specs.Typings.{IsBase, HasConst}
 use Rattle.px_exprs.specs.TypeParts.{NoName}
-use Rattle.px_exprs.proofs.Codes.{one_name}
+use Rattle.px_lexer.proofs.OneToken.{one_name}
 use Rattle.px_exprs.proofs.Agreement.{agree_same, agree_back, agree_carried, agree_front}
 use Rattle.px_exprs.proofs.Keeping.{name_carried}
-use Rattle.px_exprs.proofs.TokenReading.{goes_on, length_terminals, name_kind}
+use Rattle.px_exprs.proofs.TokenReading.{goes_on}
+use Rattle.px_lexer.proofs.TokenAccess.{length_terminals, name_kind}
 use Rattle.px_parser.specs.declared.readings.Found.{Found}
 use Rattle.px_parser.specs.Shapes.{Mode, Shape, Either}
 use Rattle.px_parser.specs.Parsing.{strict, looks_before, unseen_from}
 use Rattle.px_parser.specs.Readings.{IsShallow, IsReached, IsStuck, IsOver, IsUnread, IsReading, Reads, IsArrived}
 use Rattle.px_parser.specs.Ends.{EndsName}
-use Rattle.px_parser.specs.Parts.{TypedName, MaybeTypedName, ResultName}
+use Rattle.px_parser.specs.Parts.{TypedName, MaybeTypedName, ResultName, BeginsType, GoesOn}
 use Rattle.px_parser.specs.ModuleGrammar.{Result}
 use Rattle.px_parser.proofs.Shapely.{Good}
 use Rattle.px_parser.proofs.Steps.{Step, way_made, reached_made, stuck_here, arrived_made}
-use Rattle.px_parser.proofs.TypedNames.{SomeName, GoesOn, IsLast, NoType, BeginsTyped, BeginsVoid, below_or_above, goes_on_ends, ends_carried, goes_on_carried, base_names, base_carried, typing_begins, good_typed_name, good_maybe_name, good_result_name, numbered_by, numbered_last, void_is_no_base, const_is_not_void, void_typed, void_alone}
+use Rattle.px_parser.proofs.TypedNames.{SomeName, IsLast, NoType, BeginsTyped, BeginsVoid, below_or_above, goes_on_ends, ends_carried, goes_on_carried, base_names, base_carried, typing_begins, good_typed_name, good_maybe_name, good_result_name, numbered_by, numbered_last, void_is_no_base, const_is_not_void, void_typed, void_alone}
 use Rattle.px_parser.proofs.TypedReading.{IsTyped, Named, typed_by, typed_parts, typed_last, shallow_base, shallow_words}
 
 -- Such forms
@@ -117,10 +118,6 @@ pub result_choice : Choice ResultName result_type.Of result_type.Unwritten VoidL
 result_choice = record { good = good_result_name; behind_type = result_by; alone = result_alone; split = result_split }
 
 -- Where a type begins
-
--- `const`, or a base of one word
-abbrev pub BeginsType : Stops
-BeginsType ts i = IsName ts i (codes "const") ⊎ ((b : BaseType) × IsBase ts i b (suc i))
 
 pub some_base : (r : Option BaseType) (ts : List Terminal) (i j : ℕ) → is_some r ≡ true → MatchOption r ((b : BaseType) → IsBase ts i b j → ⊥) (λ b. IsBase ts i b j) → (b : BaseType) × IsBase ts i b j
 some_base None ts i j e h = absurd (false≢true e)
@@ -259,7 +256,11 @@ alone_stuck {A} {Y = Y} ts from room choice lt first none = stuck_here ts from r
           ])
         ]
 
-alone_unended : {A : Type 0} {Y : Shape (A × ℕ)} {wrap : Typing → A} {absent : A} {V : Stops} (ts : List Terminal) (from room : ℕ) → Choice Y wrap absent V → suc from < length ts → SomeName ts from → NoType ts from
+-- no type begins here, or none goes on
+abbrev pub NoTyped : Stops
+NoTyped ts i = BeginsType ts i × GoesOn ts (suc i) → ⊥
+
+alone_unended : {A : Type 0} {Y : Shape (A × ℕ)} {wrap : Typing → A} {absent : A} {V : Stops} (ts : List Terminal) (from room : ℕ) → Choice Y wrap absent V → suc from < length ts → SomeName ts from → NoTyped ts from
     → ((us : List Terminal) → Agree (suc (suc from)) us ts → V us from → ⊥) → (EndsName ts (suc from) → ⊥) → IsStuck Y EndsName ts from room (suc from)
 alone_unended {absent = absent} ts from room choice lt named free out goes = record {
   forward = omega arith;
@@ -268,18 +269,17 @@ alone_unended {absent = absent} ts from room choice lt named free out goes = rec
   none = λ us agree limit tree blocks j y s. elim (choice.split (strict limit) us from blocks j tree y s) [
     | inl v ↦ out us agree v
     | inr w ↦ (elim (w) [
-      | inl h ↦ (typed_begins (strict limit) us from blocks j h.0 h.1 s).0 (no_type_carried ts us (suc (suc from)) from agree (omega arith) free)
+      | inl h ↦
+          (let begins = typed_begins (strict limit) us from blocks j h.0 h.1 s in
+          let more = goes_on_carried (suc (suc from)) (agree_back us ts agree) begins.1 (omega arith) in
+          begins.0 (no_type_carried ts us (suc (suc from)) from agree (omega arith) (λ w. free (inl w, more), λ b g. free (inr (b, g), more))))
       | inr last ↦ goes (ends_carried (suc (suc from)) (agree_back us ts agree) last.1 (omega arith))
     ])
   ];
 }
 
-no_type : (ts : List Terminal) (i : ℕ) → NoType ts i ⊎ EndsName ts (suc i) → (EndsName ts (suc i) → ⊥) → NoType ts i
-no_type ts i (inl free) goes = free
-no_type ts i (inr s) goes = absurd (goes s)
-
 pub alone_reads : {A : Type 0} {Y : Shape (A × ℕ)} {wrap : Typing → A} {absent : A} {V : Stops} (tokens : Tokens) (from room : ℕ) (r : Answer (Found (A × ℕ)) Unread) → Choice Y wrap absent V → IsInput tokens → from < length tokens.list
-    → NoType (terminals_of tokens) from ⊎ EndsName (terminals_of tokens) (suc from) → ((us : List Terminal) → V us from → SomeName us from) → ((us : List Terminal) → Agree (suc (suc from)) us (terminals_of tokens) → V us from → ⊥)
+    → NoTyped (terminals_of tokens) from → ((us : List Terminal) → V us from → SomeName us from) → ((us : List Terminal) → Agree (suc (suc from)) us (terminals_of tokens) → V us from → ⊥)
     → Named (terminals_of tokens) absent from r → Reads Y EndsName (terminals_of tokens) from room r
 alone_reads {Y = Y} {absent = absent} tokens from room (Ok found) choice input lt free first out m =
     let ts = terminals_of tokens in
@@ -294,7 +294,7 @@ alone_reads {Y = Y} tokens from room (Err (unread.Stuck k)) choice input lt free
 alone_reads {Y = Y} tokens from room (Err (unread.Stuck k)) choice input lt free first out (inr m) =
     let ts = terminals_of tokens in
     let inside : suc from < length ts = omega (arith, length_terminals tokens, goes_on tokens from kind.Name input (name_kind m.1.1) (omega arith)) in
-    subst (IsStuck Y EndsName ts from room) (sym m.0) (alone_unended ts from room choice inside m.1 (no_type ts from free m.2) out m.2)
+    subst (IsStuck Y EndsName ts from room) (sym m.0) (alone_unended ts from room choice inside m.1 free out m.2)
 alone_reads tokens from room (Err (unread.TooDeep k)) choice input lt free first out (inl m) = absurd m.0
 alone_reads tokens from room (Err (unread.TooDeep k)) choice input lt free first out (inr m) = absurd m.0
 alone_reads tokens from room (Err unread.NoMemory) choice input lt free first out (inl m) = absurd m.0

@@ -6,11 +6,10 @@ use Rattle.px_lexer.specs.declared.token_list.TokenKind.TheVariants as kind
 use Rattle.px_lexer.specs.declared.token_list.Tokens.{Tokens}
 use Rattle.px_tree.specs.declared.modules.Comment.{Comment}
 use Rattle.px_tree.specs.declared.modules.Module.{Module}
-use Rattle.px_exprs.specs.Terminals.{Terminal}
+use Rattle.px_lexer.specs.Terminals.{Terminal, terminals_of}
 use Rattle.px_exprs.specs.Runs.{nesting_limit, IsRefusalAt}
-use Rattle.px_exprs.specs.Inputs.{terminals_of}
 use Rattle.px_exprs.proofs.Agreement.{agree_same}
-use Rattle.px_exprs.proofs.Codes.{one_token}
+use Rattle.px_lexer.proofs.OneToken.{one_token}
 use Rattle.px_exprs.proofs.RunLaws.{front_and_more}
 use Rattle.px_parser.specs.Ends.{IsBefore}
 use Rattle.px_parser.specs.Laws.{ModulesAreUnique, ParsingIsUnique, RefusalsAreAtTokens, IsAtToken}

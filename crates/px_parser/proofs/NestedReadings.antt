@@ -3,7 +3,7 @@ use Rattle.std.proofs.Common.{ℕ, suc, ◌≤◌, ◌<◌, List, arith}
 use Rattle.px_exprs.specs.declared.readings.Unread.{Unread}
 use Rattle.px_exprs.specs.declared.readings.Unread.TheVariants as unread
 use Rattle.px_lexer.specs.declared.token_list.TokenKind.TheVariants as kind
-use Rattle.px_exprs.specs.Terminals.{Terminal, HasKind}
+use Rattle.px_lexer.specs.Terminals.{Terminal, HasKind}
 use Rattle.px_exprs.proofs.Keeping.{kind_carried}
 use Rattle.px_exprs.specs.Readings.{Form, Stops, HasWay as FormWay, HasShallow as FormShallow, IsReached as FormReached, IsUnread as FormUnread, IsReading as FormReading}
 use Rattle.px_exprs.specs.Grammar.{IsExpr, IsPrimary}

@@ -2,7 +2,7 @@
 use Rattle.std.proofs.Common.{◌≡◌, ℕ, suc, ◌<◌, ◌≤◌, ◌≢◌, List, [], ◌∷◌, ◌++◌, Option, Some, None, All, refl, sym, ap, ◌∙◌, subst, arith, append_assoc, append-nil}
 use Rattle.std.proofs.lemmas.List.Elements.{All-cons, All-head, All-tail}
 use Rattle.px_lexer.specs.declared.token_list.TokenKind.{TokenKind}
-use Rattle.px_exprs.specs.Terminals.{Terminal}
+use Rattle.px_lexer.specs.Terminals.{Terminal}
 use Rattle.px_exprs.proofs.NodeRanges.{IsWithin, Fits, nothing, wider, with_own, before, both}
 use Rattle.px_parser.specs.Shapes.{Shape, Token, Name, Here, Placed, Gives, Then, Seq, Either, Many, Listed, Of, After, Before, Or, Maybe, Several, Separated, Elements}
 use Rattle.px_parser.specs.Parsing.{strict}

@@ -19,7 +19,7 @@ use Rattle.px_tree.specs.declared.modules.FunctionKind.TheVariants as function_k
 use Rattle.px_tree.specs.declared.modules.ResultType.TheVariants as result_type
 use Rattle.px_tree.specs.declared.modules.ExceptionForm.TheVariants as exception
 use Rattle.px_tree.specs.declared.modules.ModuleItem.TheVariants as module_item
-use Rattle.px_exprs.specs.Terminals.{Terminal}
+use Rattle.px_lexer.specs.Terminals.{Terminal}
 use Rattle.px_exprs.specs.Typings.{IsTyping}
 use Rattle.px_exprs.specs.Grammar.{IsExpr}
 use Rattle.px_exprs.specs.NodeNumbers.{node_numbers}
@@ -29,17 +29,17 @@ use Rattle.px_exprs.proofs.NodeEquations.{of_node, of_form_Tuple}
 use Rattle.px_exprs.proofs.NodeLaws.{numbers_distinct}
 use Rattle.px_exprs.proofs.NodeRanges.{IsWithin, Fits, nothing, wider, before, both, between}
 use Rattle.px_parser.specs.Laws.{ModuleNumbersAreDistinct}
-use Rattle.px_parser.specs.ModuleNumbers.{numbers_in_part, numbers_in_each, typing_numbers, declarator_numbers, declaration_numbers, statement_numbers, decorator_numbers, result_numbers, parameter_numbers, exception_numbers, function_numbers, item_numbers, module_numbers}
+use Rattle.px_parser.specs.ModuleNumbers.{numbers_in_part, numbers_in_each, typing_numbers, declarator_numbers, declaration_numbers, statement_numbers, decorator_numbers, result_numbers, parameter_numbers, exception_numbers, function_numbers, imported_numbers, numbers_in_import, import_numbers, item_numbers, module_numbers}
 use Rattle.px_parser.specs.Shapes.{Shape, Either, Listed, Of, Nested}
 use Rattle.px_parser.specs.StatementGrammar.{statement_node, expr_list, CommaList, IsWithinLimit, Exprs, IsTarget, Targets, loop_target, LoopTargets, Assignment, Augmentation, Return, InBrackets, Raise, Global, SimpleForm, Simple, Line, Decl, Decls, Declared, DeclareLine, GroupLine, DeclareGroup, Declare, Body, Guarded, Armed, arm_of, If, While, For, LockWord, With, alone, StatementWith, joined, StatementsWith, IndentedWith, Unseen, BlockWithin, Block, Statement}
-use Rattle.px_parser.specs.ModuleGrammar.{Numbered, ImportLine, DecoratorLine, Parameter, Parameters, Result, Exception, DefHead, CHead, Tail, Rest, FunctionForm, one_import, one_function, Item, ModuleForm}
+use Rattle.px_parser.specs.ModuleGrammar.{Numbered, Imported, WholeImport, PartImport, ImportLine, DecoratorLine, Parameter, Parameters, Result, Exception, DefHead, CHead, Tail, Rest, FunctionForm, one_import, one_function, Item, ModuleForm}
 use Rattle.px_parser.specs.Parsing.{strict}
-use Rattle.px_parser.proofs.Shapely.{sound_token, sound_name, sound_soft, sound_of, sound_or, sound_separated}
+use Rattle.px_parser.proofs.Shapely.{good_seq, sound_token, sound_name, sound_soft, sound_of, sound_or, sound_separated}
 use Rattle.px_parser.proofs.CompoundShapes.{sound_lock}
 use Rattle.px_parser.proofs.TypedNames.{typing_kept}
 use Rattle.px_parser.proofs.TargetsLaws.{target_is_expr}
 use Rattle.px_parser.proofs.TargetsShapes.{good_augmented}
-use Rattle.px_parser.proofs.ImportShapes.{good_some_import}
+use Rattle.px_parser.proofs.ImportShapes.{good_dotted, good_alias, good_import_word}
 use Rattle.px_parser.proofs.FunctionShapes.{good_decorator_name, good_not_none, good_lock_form, good_c_word}
 use Rattle.px_parser.proofs.NodeEquations.{form_numbers, arm_numbers, block_numbers, of_statement, of_arm, of_Assign, of_Augment, of_Pass, of_Break, of_Continue, of_Return, of_Raise, of_Global, of_If, of_While, of_For, of_WithGil, of_WithNogil, of_Declare, of_DeclareGroup}
 use Rattle.px_parser.proofs.NodeCounts.{same_fits, others_fit, moved, last_first, ended, unended, each_append, Counts, counts_none, counts_gives, counts_then, counts_seq, counts_first, counts_second, counts_placed, counts_either, counts_of, counts_many, counts_after, counts_before, counts_or, counts_maybe, counts_several, counts_separated, counts_elements, behind_name, behind_seq, behind_after, behind_placed, counts_here, counts_mark, led_part, counts_here_maybe, led_list, counts_here_many}
@@ -374,9 +374,22 @@ counts_function =
 
 -- Modules
 
-counts_import : Counts ImportLine (λ x. x.number ∷ [])
+counts_imported : Counts Imported imported_numbers
+unfolding Imported
+counts_imported = counts_of _ (counts_here (behind_placed (behind_seq behind_name (counts_none good_alias.sound)))) (λ p i j h. h)
+
+counts_whole_import : Counts WholeImport (λ p. numbers_in_import p.1)
+unfolding WholeImport
+counts_whole_import = counts_of _ (counts_none (good_seq good_import_word (good_seq good_dotted good_alias)).sound) (λ p i j h. h)
+
+counts_part_import : Counts PartImport (λ p. numbers_in_import p.1)
+unfolding PartImport
+counts_part_import = counts_after _ (counts_of _ (counts_second good_dotted.sound (counts_second good_import_word.sound (counts_separated _ counts_imported))) (λ p i j h. h))
+
+counts_import : Counts ImportLine import_numbers
 unfolding ImportLine
-counts_import = counts_of _ (counts_placed (counts_second good_some_import.sound (counts_mark kind.Newline))) (λ p i j h. h)
+counts_import =
+    counts_of _ (counts_placed (counts_seq (counts_either counts_whole_import counts_part_import) (counts_mark kind.Newline))) (λ p i j h. last_first (numbers_in_import p.1.0.1) p.1.1 h)
 
 statement_items : (ss : List Stmt) → numbers_in_each item_numbers (map module_item.Statement ss) ≡ block_numbers ss
 statement_items [] = refl
@@ -387,7 +400,7 @@ unfolding Item
 counts_item =
     counts_either (counts_of _ (counts_none (sound_token kind.Newline)) (λ t i j h. h))
     (counts_either (counts_of one_function counts_function (λ f i j h. ended (function_numbers f) h))
-    (counts_either (counts_of one_import counts_import (λ x i j h. h)) (counts_of _ counts_statement (λ ss i j h. same_fits (statement_items ss) h))))
+    (counts_either (counts_of one_import counts_import (λ x i j h. ended (import_numbers x) h)) (counts_of _ counts_statement (λ ss i j h. same_fits (statement_items ss) h))))
 
 counts_module : (comments : List Comment) → Counts (ModuleForm comments) module_numbers
 unfolding ModuleForm

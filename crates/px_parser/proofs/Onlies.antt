@@ -1,11 +1,11 @@
 -- From one index on a form is read in one way at most, in all lists that agree up to the token behind it.
 use Rattle.std.proofs.Common.{◌≡◌, ℕ, suc, ◌≤◌, ◌<◌, List, [], ◌∷◌, Some, None, refl, sym, ap, ap₂, subst, ◌∙◌, arith}
 use Rattle.px_lexer.specs.declared.token_list.TokenKind.{TokenKind}
-use Rattle.px_exprs.specs.Terminals.{Terminal, HasKind}
+use Rattle.px_lexer.specs.Terminals.{Terminal, HasKind}
 use Rattle.px_exprs.specs.Readings.{Form, Stops, Agree}
 use Rattle.px_exprs.proofs.Agreement.{agree_back, agree_carried}
 use Rattle.px_exprs.proofs.Keeping.{name_carried, place_carried}
-use Rattle.px_exprs.proofs.Codes.{one_name, one_place}
+use Rattle.px_lexer.proofs.OneToken.{one_name, one_place}
 use Rattle.px_parser.specs.Shapes.{Mode, Shape, Token, Name, Soft, Here, Placed, Gives, Then, Seq, Either, Many, Listed, Of, After, Before, Or, Maybe, Nested}
 use Rattle.px_parser.specs.Readings.{Anywhere}
 use Rattle.px_parser.proofs.Shapely.{Sound, Solid, sound_token, sound_many, sound_gives, sound_listed, sound_of}

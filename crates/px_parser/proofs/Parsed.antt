@@ -7,14 +7,13 @@ use Rattle.px_lexer.specs.declared.token_list.TokenKind.TheVariants as kind
 use Rattle.px_tree.specs.declared.modules.Comment.{Comment}
 use Rattle.px_tree.specs.declared.modules.ModuleItem.{ModuleItem}
 use Rattle.px_tree.specs.declared.modules.Module.{Module}
-use Rattle.px_exprs.specs.Terminals.{Terminal, HasKind, IsKeyword, IsAt}
+use Rattle.px_lexer.specs.Terminals.{Terminal, HasKind, IsKeyword, IsAt, terminals_of}
 use Rattle.px_exprs.specs.Readings.{Agree}
 use Rattle.px_exprs.specs.Runs.{nesting_limit}
 use Rattle.px_exprs.proofs.Agreement.{agree_carried, agree_append, agree_take}
 use Rattle.px_lexer.specs.declared.token_list.Tokens.{Tokens}
-use Rattle.px_exprs.specs.Inputs.{terminals_of}
 use Rattle.px_exprs.proofs.RunLaws.{front_and_more}
-use Rattle.px_exprs.proofs.TokenReading.{length_terminals}
+use Rattle.px_lexer.proofs.TokenAccess.{length_terminals}
 use Rattle.px_parser.specs.Listings.{IsListing}
 use Rattle.px_parser.specs.Ends.{IsBefore}
 use Rattle.px_parser.specs.Shapes.{Mode, Many}

@@ -1,7 +1,7 @@
 -- The steps to what stands behind a token, a place or an index.
 use Rattle.std.proofs.Common.{ℕ, suc, List, refl, subst, arith}
 use Rattle.px_lexer.specs.declared.token_list.TokenKind.{TokenKind}
-use Rattle.px_exprs.specs.Terminals.{Terminal, HasKind}
+use Rattle.px_lexer.specs.Terminals.{Terminal, HasKind}
 use Rattle.px_exprs.specs.Readings.{Stops}
 use Rattle.px_exprs.proofs.Agreement.{agree_same}
 use Rattle.px_parser.specs.Shapes.{Shape, Here, Placed, Seq, After}

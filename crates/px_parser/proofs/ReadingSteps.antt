@@ -5,13 +5,12 @@ use Rattle.px_lexer.specs.declared.token_list.TokenKind.{TokenKind}
 use Rattle.px_lexer.specs.declared.token_list.TokenKind.TheVariants as kind
 use Rattle.px_lexer.specs.declared.token_list.Tokens.{Tokens}
 use Rattle.px_exprs.specs.declared.readings.Unread.TheVariants as unread
-use Rattle.px_exprs.specs.Terminals.{Terminal, HasKind, IsName, IsAt}
-use Rattle.px_exprs.specs.Inputs.{terminals_of}
+use Rattle.px_lexer.specs.Terminals.{Terminal, HasKind, IsName, IsAt, terminals_of}
 use Rattle.px_exprs.specs.Readings.{Stops}
 use Rattle.px_exprs.specs.Runs.{nesting_limit}
 use Rattle.px_exprs.proofs.Agreement.{agree_same, agree_back}
 use Rattle.px_exprs.proofs.Keeping.{kind_carried}
-use Rattle.px_exprs.proofs.TokenReading.{length_terminals, name_kind}
+use Rattle.px_lexer.proofs.TokenAccess.{length_terminals, name_kind}
 use Rattle.px_parser.specs.Shapes.{Shape, Token, Soft, Here, Placed, Gives, Seq, Either, Of, After, Before, Or}
 use Rattle.px_parser.specs.Parsing.{strict}
 use Rattle.px_parser.specs.Readings.{IsReading, IsStuck, Anywhere}

@@ -1,7 +1,7 @@
 -- How a list is read whose elements have a separator between them.
 use Rattle.std.proofs.Common.{◌≡◌, ℕ, suc, ◌<◌, List, [], ◌∷◌, ◌++◌, inr, length, ap, ◌∙◌, arith}
 use Rattle.px_lexer.specs.declared.token_list.TokenKind.{TokenKind}
-use Rattle.px_exprs.specs.Terminals.{Terminal, HasKind}
+use Rattle.px_lexer.specs.Terminals.{Terminal, HasKind}
 use Rattle.px_exprs.specs.Readings.{Stops, Agree}
 use Rattle.px_exprs.specs.Runs.{nesting_limit}
 use Rattle.px_exprs.proofs.Agreement.{agree_back}

@@ -3,7 +3,7 @@
 use Rattle.std.proofs.Common.{◌≡◌, ℕ, zero, suc, ◌≤◌, ◌<◌, List, [], ◌∷◌, ◌++◌, Some, None, length, refl, arith, length-append, codes}
 use Rattle.px_lexer.specs.declared.token_list.TokenKind.{TokenKind}
 use Rattle.px_lexer.specs.declared.token_list.TokenKind.TheVariants as kind
-use Rattle.px_exprs.specs.Terminals.{Terminal, Stands}
+use Rattle.px_lexer.specs.Terminals.{Terminal, Stands}
 use Rattle.px_exprs.specs.Readings.{Form, Agree}
 use Rattle.px_exprs.proofs.Agreement.{agree_same, agree_through, agree_carried, agree_append}
 use Rattle.px_exprs.proofs.Keeping.{kind_carried, name_carried, place_carried}

@@ -16,8 +16,7 @@ use Rattle.px_tree.specs.declared.modules.Lock.{Lock}
 use Rattle.px_tree.specs.declared.modules.Lock.TheVariants as lock
 use Rattle.px_exprs.specs.declared.readings.Unread.{Unread}
 use Rattle.px_exprs.specs.declared.readings.Unread.TheVariants as unread
-use Rattle.px_exprs.specs.Inputs.{terminals_of}
-use Rattle.px_exprs.specs.Terminals.{Terminal, IsName, IsKeyword, IsOperator}
+use Rattle.px_lexer.specs.Terminals.{terminals_of, Terminal, IsName, IsKeyword, IsOperator}
 use Rattle.px_exprs.specs.Readings.{Stops}
 use Rattle.px_exprs.specs.Codes.{Past}
 use Rattle.px_exprs.specs.Words.{IsStuckAt}
@@ -25,7 +24,7 @@ use Rattle.px_exprs.proofs.Agreement.{agree_back}
 use Rattle.px_exprs.proofs.Keeping.{name_carried}
 use Rattle.px_parser.specs.declared.readings.Found.{Found}
 use Rattle.px_parser.specs.Shapes.{Shape, Sign, Soft, Of, After}
-use Rattle.px_parser.specs.Readings.{IsReading, IsUnread, IsStuck, Reads, Anywhere}
+use Rattle.px_parser.specs.Readings.{IsReading, IsUnread, IsStuck, Reads, Anywhere, IsMisread}
 use Rattle.px_parser.specs.Listings.{IsListing}
 use Rattle.px_parser.specs.StatementGrammar.{IsWithinLimit}
 use Rattle.px_parser.specs.Ends.{EndsException, IsBefore}
@@ -36,6 +35,7 @@ use Rattle.px_parser.proofs.Onlies.{Clash, leads_of, leads_token, leads_after, o
 use Rattle.px_parser.proofs.Steps.{Step, Local, Never, fails, step_left, step_right, step_twice, never_by, stuck_here}
 use Rattle.px_parser.proofs.ExprShapes.{good_expr, only_expr}
 use Rattle.px_parser.proofs.KindLaws.{IsNot, kind_missing, kinds_apart}
+use Rattle.px_parser.proofs.TokenShapes.{misread_by}
 use Rattle.px_parser.proofs.ReadingSteps.{read_both, read_of, read_left, read_right, read_after, read_absent, read_ends, inside_terminals, kind_read, spelled_read, step_front, step_back, step_made, step_after, step_or, step_ends, step_anywhere, ended_stuck, local_kind, stuck_of}
 use Rattle.px_parser.proofs.FunctionReading.{closed_reads, absent_reads, passed_reads}
 use Rattle.px_parser.proofs.FunctionShapes.{leads_to_expr, BeginsExpr, exception_past, BeginsMark, good_maybe_caught, good_caught_mark, leads_caught_mark, mark_begins_no_expr, good_caught, BeginsExcepted, good_noexcept, good_except, good_excepted, leads_excepted, excepted_or_ended, name_and_kind, good_exception, only_exception, Locked, BeginsLocked, good_gil, good_locked, leads_locked, only_locked, locked_or_ended, good_lock_form, leads_lock_form}
@@ -182,13 +182,13 @@ pub locked_gil : (tokens : Tokens) (i l j : ℕ) → IsListing tokens → IsKeyw
 locked_gil tokens i l j listing here e h = IsLocked.written (λ room. read_right _ (read_after _ (kind_read tokens i l room listing here (λ f. cc) e) (read_of _ (h room))))
 
 pub lock_unread : (tokens : Tokens) (i l room : ℕ) (u : Unread) → IsListing tokens → (IsName (terminals_of tokens) i (codes "nogil") → ⊥) → IsKeyword (terminals_of tokens) i word.With → l ≡ suc i
-    → IsUnread (Soft (codes "gil")) Anywhere (terminals_of tokens) l room u → IsUnread LockForm (IsBefore (kind.Operator sign.Colon)) (terminals_of tokens) i room u
+    → IsMisread (Soft (codes "gil")) Anywhere (terminals_of tokens) l room u → IsMisread LockForm (IsBefore (kind.Operator sign.Colon)) (terminals_of tokens) i room u
 unfolding LockForm
 lock_unread tokens i l room u listing no_nogil here e h =
     let ts = terminals_of tokens in
     let other : Never (Of (λ _. lock.Nogil) (Soft (codes "nogil"))) (IsBefore (kind.Operator sign.Colon)) ts i = λ us agree mode t n j y s. name_and_kind (kind.Keyword word.With) (λ f. cc) us ts i (agree_back us ts agree) y.read.stands here in
-    fails (step_twice (step_anywhere (good_soft (codes "gil"))) (step_twice (step_made _ (good_soft (codes "gil"))) (step_twice (step_after _ good_gil (kind_read tokens i l room listing here (λ f. cc) e))
-    (step_twice (step_right ts i room (good_after _ good_gil).rises other) (step_or lock.Unwritten good_locked locked_or_ended (inr here)))))) u h
+    misread_by (step_twice (step_anywhere (good_soft (codes "gil"))) (step_twice (step_made _ (good_soft (codes "gil"))) (step_twice (step_after _ good_gil (kind_read tokens i l room listing here (λ f. cc) e))
+    (step_twice (step_right ts i room (good_after _ good_gil).rises other) (step_or lock.Unwritten good_locked locked_or_ended (inr here)))))) h
 
 pub lock_read : (ts : List Terminal) (i j room : ℕ) (tree : Lock) → IsLocked ts i tree j → IsOperator ts j sign.Colon → IsReading LockForm (IsBefore (kind.Operator sign.Colon)) ts i room tree j
 unfolding LockForm

@@ -10,13 +10,14 @@ use Rattle.px_tree.specs.declared.expressions.Expr.{Expr}
 use Rattle.px_tree.specs.declared.statements.Stmt.{Stmt}
 use Rattle.px_tree.specs.declared.statements.StmtForm.{StmtForm}
 use Rattle.px_tree.specs.declared.statements.StmtForm.TheVariants as statement
-use Rattle.px_exprs.specs.Terminals.{Terminal, HasKind}
+use Rattle.px_lexer.specs.Terminals.{Terminal, HasKind}
 use Rattle.px_exprs.specs.Codes.{code_at, kind_code, Past}
 use Rattle.px_exprs.specs.Grammar.{IsExpr}
 use Rattle.px_exprs.specs.Readings.{Stops}
 use Rattle.px_exprs.proofs.Agreement.{agree_same}
 use Rattle.px_exprs.proofs.Beginnings.{expr_begins}
-use Rattle.px_exprs.proofs.Codes.{code_here, one_kind}
+use Rattle.px_exprs.proofs.Codes.{code_here}
+use Rattle.px_lexer.proofs.OneToken.{one_kind}
 use Rattle.px_exprs.proofs.Keeping.{kind_carried}
 use Rattle.px_exprs.proofs.Stops.{code_carried, kind_stops}
 use Rattle.px_parser.specs.Shapes.{Shape, Token, Name, Here, Gives, Seq, Either, Many, Listed, Of, After, Before, Or, Maybe, Nested}

@@ -13,16 +13,15 @@ use Rattle.px_tree.specs.declared.statements.StmtForm.{StmtForm}
 use Rattle.px_tree.specs.declared.statements.StmtForm.TheVariants as statement
 use Rattle.px_exprs.specs.declared.readings.Unread.{Unread}
 use Rattle.px_exprs.specs.declared.readings.Unread.TheVariants as unread
-use Rattle.px_exprs.specs.Terminals.{Terminal, HasKind, IsKeyword, IsAt}
+use Rattle.px_lexer.specs.Terminals.{Terminal, HasKind, IsKeyword, IsAt, terminals_of}
 use Rattle.px_exprs.specs.Codes.{Past}
-use Rattle.px_exprs.specs.Inputs.{terminals_of}
 use Rattle.px_exprs.specs.Readings.{Stops}
 use Rattle.px_exprs.specs.Runs.{nesting_limit}
 use Rattle.px_exprs.specs.Words.{IsStuckAt}
 use Rattle.px_exprs.proofs.Agreement.{agree_same, agree_back}
-use Rattle.px_exprs.proofs.Codes.{one_keyword}
+use Rattle.px_lexer.proofs.OneToken.{one_keyword}
 use Rattle.px_exprs.proofs.Keeping.{kind_carried}
-use Rattle.px_exprs.proofs.TokenReading.{length_terminals}
+use Rattle.px_lexer.proofs.TokenAccess.{length_terminals}
 use Rattle.px_parser.specs.declared.readings.Found.{Found}
 use Rattle.px_parser.specs.Listings.{IsListing}
 use Rattle.px_parser.specs.Shapes.{Shape, Token, Name, Here, Placed, Gives, Seq, Either, Many, Of, After, Before, Maybe}

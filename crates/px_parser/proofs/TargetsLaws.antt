@@ -4,7 +4,7 @@ use Rattle.px_tree.specs.declared.expressions.Expr.{Expr}
 use Rattle.px_tree.specs.declared.expressions.ExprForm.TheOpen.{ExprForm-F}
 use Rattle.px_tree.specs.declared.expressions.ExprForm.TheVariants as form
 use Rattle.px_tree.specs.declared.expressions.ExprForm.TheVariants.{rolls-Name, rolls-Number, rolls-Text, rolls-True, rolls-False, rolls-None, rolls-Sizeof, rolls-Tuple, rolls-List, rolls-Dict, rolls-Row, rolls-Unary, rolls-Cast, rolls-Chain, rolls-Compare, rolls-Not, rolls-And, rolls-Or, rolls-Conditional}
-use Rattle.px_exprs.specs.Terminals.{Terminal}
+use Rattle.px_lexer.specs.Terminals.{Terminal}
 use Rattle.px_exprs.specs.Grammar.{Level, binary_levels, node, IsExpr, IsOr, IsAnd, IsNot, IsCompare, IsBinary, IsUnary, IsPrimary, IsAtom, HasCommas, AreExprs}
 use Rattle.px_exprs.specs.Codes.{Past}
 use Rattle.px_exprs.specs.Readings.{Stops}

@@ -1,5 +1,5 @@
 -- The targets of a `for`: each is read as a primary, which can go on to a target.
-use Rattle.std.proofs.Common.{◌≡◌, ℕ, zero, suc, ◌+◌, ◌≤◌, ◌<◌, max, List, [], ◌∷◌, ◌++◌, Some, length, refl, sym, ap, subst, ◌∙◌, ◌⊎◌, inl, inr, length-append, codes, arith}
+use Rattle.std.proofs.Common.{◌≡◌, Bool, IsTrue, IsFalse, Result, Ok, Err, MatchResult, ℕ, zero, suc, ◌+◌, ◌≤◌, ◌<◌, max, List, [], ◌∷◌, ◌++◌, Some, length, refl, sym, ap, subst, ◌∙◌, inl, inr, length-append, codes, arith}
 use Rattle.std.specs.Prelude.{slice_get, nat_lt}
 use Rattle.px_base.specs.declared.refusals.Span.{Span}
 use Rattle.px_lexer.specs.declared.spelling.Keyword.TheVariants as word
@@ -11,24 +11,28 @@ use Rattle.px_tree.specs.declared.expressions.Trailer.{Trailer}
 use Rattle.px_tree.specs.declared.expressions.Trailer.TheVariants as trailer
 use Rattle.px_tree.specs.declared.expressions.Item.TheVariants as item
 use Rattle.px_exprs.specs.declared.readings.Unread.{Unread}
-use Rattle.px_exprs.specs.Terminals.{Terminal, Stands, IsKeyword, IsOperator, IsAt}
+use Rattle.px_lexer.specs.Terminals.{Terminal, Stands, IsKeyword, IsOperator, IsAt}
 use Rattle.px_exprs.specs.Grammar.{node, IsExpr, IsPrimary, IsAtom, AreTrailers, IsTrailer, AreItems, IsItem, HasComma}
 use Rattle.px_exprs.specs.Codes.{Past}
 use Rattle.px_exprs.specs.Readings.{Stops, Agree, IsUnread as FormUnread, IsReading as FormReading}
 use Rattle.px_exprs.specs.Runs.{nesting_limit}
+use Rattle.px_exprs.specs.Words.{IsStuckAt}
 use Rattle.px_exprs.proofs.Agreement.{agree_same, agree_back, agree_carried, agree_append}
 use Rattle.px_exprs.proofs.Codes.{code_here}
 use Rattle.px_exprs.proofs.Keeping.{kind_carried, primary_carried}
 use Rattle.px_exprs.proofs.Stops.{past_carried, kind_stops}
 use Rattle.px_exprs.proofs.Uniqueness.{primary_only}
+use Rattle.px_parser.specs.declared.readings.Found.{Found}
+use Rattle.px_parser.specs.Ends.{EndsLoopTarget}
 use Rattle.px_parser.specs.Shapes.{Mode, Shape, Many, After, Nested}
 use Rattle.px_parser.specs.Parsing.{strict}
-use Rattle.px_parser.specs.Readings.{IsArrived, IsStuck, IsUnread, IsReading}
+use Rattle.px_parser.specs.Readings.{IsArrived, IsStuck, IsUnread, IsReading, Reads}
 use Rattle.px_parser.specs.StatementGrammar.{IsTarget, EndsWithSubscript, LoopTargets, loop_target, expr_list}
 use Rattle.px_parser.specs.Parts.{IsTargetTree}
 use Rattle.px_parser.proofs.Shapely.{Good, good_after, sound_many, rises_many, Sound, IsRising, SoundForm, token_of, name_of, stands_there, sound_nested, rises_nested}
 use Rattle.px_parser.proofs.Onlies.{Sees, sees_less, Only, only_nested}
 use Rattle.px_parser.proofs.Steps.{Part, Step, many_more, fails, reached_made, reached_whole, sees_strict}
+use Rattle.px_parser.proofs.TokenShapes.{unread_at}
 use Rattle.px_parser.proofs.TargetsLaws.{primary_is_expr, target_is_primary, primary_target, target_has_tree, good_target, only_target}
 use Rattle.px_parser.proofs.TargetsShapes.{target_place}
 use Rattle.px_parser.proofs.NestedReadings.{primary_lines, nested_unread}
@@ -122,9 +126,6 @@ primary_completed us {i} p =
 
 -- A target with what may follow it in a `for`
 
-abbrev pub EndsLoopTarget : Stops
-EndsLoopTarget ts i = IsOperator ts i sign.Comma ⊎ IsKeyword ts i word.In
-
 pub loop_past : (ts : List Terminal) (i : ℕ) → EndsLoopTarget ts i → Past 12 ts i
 loop_past ts i (inl comma) = kind_stops comma (omega arith)
 loop_past ts i (inr keyword) = kind_stops keyword (omega arith)
@@ -170,6 +171,14 @@ target_stuck {ts} {from} {d} {to} {e} r other room =
           let same = only_primary.one read r.stops y (loop_past us j stop) agree (sees_strict nesting_limit to) (sees_strict limit to) in
           other (subst IsTargetTree (sym same.0) (target_has_tree x.read)) (loop_carried us ts to (agree_back us ts agree) (subst (EndsLoopTarget us) (sym same.1) stop));
     }
+
+-- a primary that is kept where it is a target, and ends there
+pub target_kept : {ts : List Terminal} {from d to : ℕ} {e : Expr} (r : Result (Found Expr) Unread) (whole : Bool) → FormReading IsPrimary (Past 12) ts from nesting_limit e d to → (IsTrue whole → IsTargetTree e × EndsLoopTarget ts to)
+    → (IsFalse whole → IsTargetTree e → EndsLoopTarget ts to → ⊥) → MatchResult r (λ found. IsTrue whole × (found.tree ≡ e) × (found.to ≡ to)) (λ u. IsFalse whole × IsStuckAt to u) → (room : ℕ) → Reads (Nested IsTarget) EndsLoopTarget ts from room r
+target_kept {ts} {from} {d} {to} {e} (Ok found) whole read told other m room =
+    let here = target_reads read (told m.0).0 (told m.0).1 room in
+    subst (λ t. IsReading (Nested IsTarget) EndsLoopTarget ts from room t found.to) (sym m.1) (subst (λ k. IsReading (Nested IsTarget) EndsLoopTarget ts from room e k) (sym m.2) here)
+target_kept (Err u) whole read told other m room = unread_at u m.1 (target_stuck read (other m.0) room)
 
 -- More targets
 

@@ -9,23 +9,24 @@ use Rattle.px_lexer.specs.declared.token_list.TokenKind.TheVariants as kind
 use Rattle.px_tree.specs.declared.expressions.Expr.{Expr}
 use Rattle.px_tree.specs.declared.statements.StmtForm.{StmtForm}
 use Rattle.px_tree.specs.declared.statements.StmtForm.TheVariants as statement
-use Rattle.px_exprs.specs.Terminals.{Terminal, IsOperator}
+use Rattle.px_lexer.specs.Terminals.{Terminal, IsOperator}
 use Rattle.px_exprs.specs.Grammar.{IsOf}
 use Rattle.px_exprs.specs.Readings.{Stops, Agree}
 use Rattle.px_exprs.proofs.Agreement.{agree_carried}
-use Rattle.px_exprs.proofs.Codes.{code_here, one_operator}
+use Rattle.px_exprs.proofs.Codes.{code_here}
+use Rattle.px_lexer.proofs.OneToken.{one_operator}
 use Rattle.px_exprs.proofs.Keeping.{kind_carried, of_carried}
 use Rattle.px_exprs.proofs.Stops.{code_carried}
 use Rattle.px_parser.specs.Shapes.{Mode, Either, Many, Before, Nested}
 use Rattle.px_parser.specs.Readings.{Anywhere}
 use Rattle.px_parser.specs.StatementGrammar.{IsWithinLimit, IsTarget, Targets, LoopTargets, Assignment, augmented}
 use Rattle.px_parser.specs.Parts.{Assigned}
-use Rattle.px_parser.specs.Ends.{EndsExprs, EndsSimple}
+use Rattle.px_parser.specs.Ends.{EndsExprs, EndsSimple, EndsLoopTarget}
 use Rattle.px_parser.proofs.Shapely.{Good, Solid, sound_many, sound_seq, sound_here, good_of, good_placed, good_seq, good_here, good_many}
 use Rattle.px_parser.proofs.Onlies.{Leads, Clash, Sees, Only, sees_less, leads_after, leads_wider, leads_many, leads_here, leads_anywhere, only_of, only_placed, only_seq, only_here, only_after, only_many, only_narrower}
 use Rattle.px_parser.proofs.ExprShapes.{good_exprs_read, good_expr, only_exprs_read, only_expr, end_past, IsComma, BeginsLow, solid_exprs, leads_exprs}
 use Rattle.px_parser.proofs.TargetsLaws.{good_target, only_target, solid_target}
-use Rattle.px_parser.proofs.TargetsLoops.{Next, good_next, EndsLoopTarget, IsIn, loop_past}
+use Rattle.px_parser.proofs.TargetsLoops.{Next, good_next, IsIn, loop_past}
 use Rattle.px_parser.proofs.TargetsShapes.{good_assignment, ReadAny, exprs_of, exprs_read, targets_read, only_targets, augmented_ends, augmented_no_end, augmented_no_equal, simple_ends, equal_ends, equal_no_end, simple_carried}
 use Rattle.px_parser.proofs.TargetsSteps.{Was, Assigns, Augments, Assumes, assigned_first, assignment_first, augmentation_first, good_front}
 use Rattle.px_parser.proofs.KindLaws.{solid_front}

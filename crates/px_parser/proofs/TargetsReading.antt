@@ -13,10 +13,9 @@ use Rattle.px_tree.specs.declared.statements.StmtForm.{StmtForm}
 use Rattle.px_tree.specs.declared.statements.StmtForm.TheVariants as statement
 use Rattle.px_exprs.specs.declared.readings.Unread.{Unread}
 use Rattle.px_exprs.specs.declared.readings.Unread.TheVariants as unread
-use Rattle.px_exprs.specs.Terminals.{Terminal, IsOperator}
+use Rattle.px_lexer.specs.Terminals.{Terminal, IsOperator, terminals_of}
 use Rattle.px_exprs.specs.Codes.{Past}
 use Rattle.px_exprs.specs.Readings.{Stops}
-use Rattle.px_exprs.specs.Inputs.{terminals_of}
 use Rattle.px_exprs.specs.Words.{IsStuckAt}
 use Rattle.px_parser.specs.declared.readings.Found.{Found}
 use Rattle.px_parser.specs.Listings.{IsListing}
@@ -59,9 +58,10 @@ value_refused {ts} {from} {to} {p} {meant} a one target room u h =
     let next : to + 1 ≡ suc to = omega arith in
     fails (step_value ts from to room p meant a one target) u (subst (λ k. IsUnread IsWithinLimit (Past 26) ts k room u) next h)
 
-pub augmentation_read : {ts : List Terminal} {from to end : ℕ} {p : Expr × Bool} {meant : BinOp} {v w : Expr} → Augmenting ts from p to meant → p.1 ≡ true → IsTargetTree p.0 → (room : ℕ) → IsReading IsWithinLimit (Past 26) ts (to + 1) room v end → w ≡ v
-    → (r : Result (Found StmtForm) Unread) → MatchResult r (λ found. (found.tree ≡ statement.Augment p.0 meant w) × (found.to ≡ end) × EndsSimple ts end) (λ u. IsStuckAt end u × (EndsSimple ts end → ⊥)) → Reads Assigned EndsSimple ts from room r
-augmentation_read {ts} {from} {to} {end} {p} {meant} {v} {w} a one target room value same r m =
+pub augmentation_read : {ts : List Terminal} {from to end : ℕ} {p : Expr × Bool} {meant : BinOp} {t v w : Expr} → Augmenting ts from p to meant → p.1 ≡ true → IsTargetTree p.0 → (room : ℕ) → IsReading IsWithinLimit (Past 26) ts (to + 1) room v end → t ≡ p.0 → w ≡ v
+    → (r : Result (Found StmtForm) Unread) → MatchResult r (λ found. (found.tree ≡ statement.Augment t meant w) × (found.to ≡ end) × EndsSimple ts end) (λ u. IsStuckAt end u × (EndsSimple ts end → ⊥)) → Reads Assigned EndsSimple ts from room r
+augmentation_read {ts} {from} {to} {end} {p} {meant} {t} {v} {w} a one target room value own same r h =
+    let m = subst (λ e. MatchResult r (λ found. (found.tree ≡ statement.Augment e meant w) × (found.to ≡ end) × EndsSimple ts end) (λ u. IsStuckAt end u × (EndsSimple ts end → ⊥))) own h in
     let next : to + 1 ≡ suc to = omega arith in
     let there = subst (λ k. IsReading IsWithinLimit (Past 26) ts k room w end) next (subst (λ e. IsReading IsWithinLimit (Past 26) ts (to + 1) room e end) (sym same) value) in
     ended_reads ts from room (statement.Augment p.0 meant w) end r m (λ stop. augment_reads a one target room there stop) (λ endless. augment_ended a one target room there endless)

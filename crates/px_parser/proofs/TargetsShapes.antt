@@ -12,12 +12,13 @@ use Rattle.px_lexer.specs.declared.token_list.TokenKind.TheVariants as kind
 use Rattle.px_tree.specs.declared.expressions.Expr.{Expr}
 use Rattle.px_tree.specs.declared.expressions.ExprForm.TheOpen.{ExprForm-F}
 use Rattle.px_tree.specs.declared.expressions.ExprForm.TheVariants.{rolls-Tuple}
-use Rattle.px_exprs.specs.Terminals.{Terminal, HasKind, IsOperator, IsAt}
+use Rattle.px_lexer.specs.Terminals.{Terminal, HasKind, IsOperator, IsAt}
 use Rattle.px_exprs.specs.Grammar.{IsOf}
 use Rattle.px_exprs.specs.Codes.{sign_code}
 use Rattle.px_exprs.specs.Readings.{Agree}
 use Rattle.px_exprs.proofs.Agreement.{agree_append}
-use Rattle.px_exprs.proofs.Codes.{code_here, one_kind}
+use Rattle.px_exprs.proofs.Codes.{code_here}
+use Rattle.px_lexer.proofs.OneToken.{one_kind}
 use Rattle.px_exprs.proofs.Keeping.{kind_carried, of_carried}
 use Rattle.px_parser.specs.Shapes.{Mode, Either, Listed, Elements, Nested}
 use Rattle.px_parser.specs.StatementGrammar.{IsWithinLimit, Exprs, IsTarget, Targets, Augmented, Assignment, Augmentation, augmented, expr_list}

@@ -6,7 +6,7 @@ use Rattle.px_lexer.specs.declared.token_list.TokenKind.TheVariants as kind
 use Rattle.px_tree.specs.declared.expressions.Expr.{Expr}
 use Rattle.px_tree.specs.declared.statements.StmtForm.{StmtForm}
 use Rattle.px_tree.specs.declared.statements.StmtForm.TheVariants as statement
-use Rattle.px_exprs.specs.Terminals.{Terminal, IsOperator}
+use Rattle.px_lexer.specs.Terminals.{Terminal, IsOperator}
 use Rattle.px_exprs.specs.Grammar.{IsOf}
 use Rattle.px_exprs.specs.Codes.{Past}
 use Rattle.px_exprs.specs.Readings.{Agree}

@@ -75,6 +75,9 @@ of_form e is = ap (λ f. node e.number e.at f) is
 pub row_target : {e : Expr} (atom : Expr) {trailers : List Trailer} → e.form ≡ form.Row atom trailers → EndsWithSubscript trailers → IsTargetTree e
 row_target {e} atom {trailers} is ends = IsTargetTree.element e.number e.at atom trailers ends (of_form e is)
 
+pub row_told : {e : Expr} (atom : Expr) {trailers : List Trailer} → e.form ≡ form.Row atom trailers → IsTargetTree e → EndsWithSubscript trailers
+row_told {e} atom {trailers} is target = target_told e.number e.at (ExprForm-F.Row atom trailers) (rolls-Row atom trailers) (of_form e is) target
+
 pub tuple_target : {e : Expr} (items : List Expr) → e.form ≡ form.Tuple items → (items ≡ [] → ⊥) → AreTargetTrees items → IsTargetTree e
 tuple_target [] is some targets = absurd (some refl)
 tuple_target {e} (first ∷ others) is some (AreTargetTrees.more target targets) = IsTargetTree.tuple e.number e.at first others target targets (of_form e is)

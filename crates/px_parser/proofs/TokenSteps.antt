@@ -4,11 +4,10 @@ use Rattle.px_base.specs.declared.refusals.Span.{Span}
 use Rattle.px_lexer.specs.declared.token_list.Tokens.{Tokens}
 use Rattle.px_lexer.specs.declared.token_list.TokenKind.{TokenKind}
 use Rattle.px_lexer.specs.declared.token_list.TokenKind.TheVariants as kind
-use Rattle.px_exprs.specs.Terminals.{Terminal, HasKind, IsAt}
-use Rattle.px_exprs.specs.Inputs.{terminals_of}
+use Rattle.px_lexer.specs.Terminals.{Terminal, HasKind, IsAt, terminals_of}
 use Rattle.px_exprs.specs.Readings.{Stops}
 use Rattle.px_exprs.specs.Runs.{nesting_limit}
-use Rattle.px_exprs.proofs.TokenReading.{length_terminals}
+use Rattle.px_lexer.proofs.TokenAccess.{length_terminals}
 use Rattle.px_parser.specs.Listings.{IsListing}
 use Rattle.px_parser.specs.Shapes.{Mode, Shape, Token, Here, Placed, Seq, After, Before}
 use Rattle.px_parser.specs.Parsing.{strict}

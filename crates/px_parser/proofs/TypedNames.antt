@@ -10,12 +10,13 @@ use Rattle.px_tree.specs.declared.typings.BaseType.{BaseType}
 use Rattle.px_tree.specs.declared.typings.BaseType.TheVariants as base
 use Rattle.px_tree.specs.declared.typings.«Type».{«Type» as Typing}
 use Rattle.px_tree.specs.declared.modules.ResultType.TheVariants as result_type
-use Rattle.px_exprs.specs.Terminals.{Terminal, IsName, IsOperator}
+use Rattle.px_lexer.specs.Terminals.{Terminal, IsName, IsOperator}
 use Rattle.px_exprs.specs.Readings.{Stops, Agree}
 use Rattle.px_exprs.specs.Typings.{bases, AreNames, IsBase, HasAxes, HasConst, IsTyping}
 use Rattle.px_exprs.specs.TypeParts.{NoName}
 use Rattle.px_exprs.specs.Codes.{code_at}
-use Rattle.px_exprs.proofs.Codes.{code_here, name_code, one_name, one_place}
+use Rattle.px_exprs.proofs.Codes.{code_here, name_code}
+use Rattle.px_lexer.proofs.OneToken.{one_name, one_place}
 use Rattle.px_exprs.proofs.Agreement.{agree_same, agree_back, agree_carried, agree_append, agree_front, nothing_behind}
 use Rattle.px_exprs.proofs.Keeping.{kind_carried, name_carried, place_carried, names_carried, view_carried, const_carried}
 use Rattle.px_exprs.proofs.TypingLaws.{base_of, base_tells, const_unique, axes_unique}
@@ -23,7 +24,7 @@ use Rattle.px_exprs.proofs.TypeReading.{names_length, base_forward, no_base, bas
 use Rattle.px_parser.specs.Shapes.{Mode, Shape, Soft, Gives, Seq, Either, Of, Maybe, Nested}
 use Rattle.px_parser.specs.Readings.{Anywhere}
 use Rattle.px_parser.specs.Ends.{EndsName}
-use Rattle.px_parser.specs.Parts.{TypedName, MaybeTypedName, ResultName}
+use Rattle.px_parser.specs.Parts.{TypedName, MaybeTypedName, ResultName, GoesOn}
 use Rattle.px_parser.specs.ModuleGrammar.{Numbered, Result}
 use Rattle.px_parser.proofs.Shapely.{Sound, Solid, SoundForm, FreshForm, Good, good_nested, good_seq, good_here, good_name, good_of, good_or, good_maybe, good_either, good_soft, good_gives, name_of, stands_last, one_longer}
 use Rattle.px_parser.proofs.Onlies.{Leads, Only, only_seq, only_of, only_soft, only_gives, leads_anywhere}
@@ -47,10 +48,6 @@ below_or_above (suc x) (suc y) = elim (below_or_above x y) [ inl l ↦ inl (omeg
 abbrev pub SomeName : Stops
 SomeName ts i = (name : List ℕ) × IsName ts i name
 
--- an identifier, or a bracket that opens axes
-abbrev pub GoesOn : Stops
-GoesOn ts i = SomeName ts i ⊎ IsOperator ts i sign.OpenBracket
-
 -- a name, where it ends
 abbrev pub IsLast : Stops
 IsLast ts i = SomeName ts i × EndsName ts (suc i)
@@ -66,6 +63,9 @@ words_go_on (inr h) = inr h
 pub goes_on_ends : {ts : List Terminal} {i : ℕ} → GoesOn ts i → EndsName ts i → ⊥
 goes_on_ends (inl h) s = s.0 h.0 h.1
 goes_on_ends (inr h) s = s.1 h
+
+pub ends_name : {ts : List Terminal} {i : ℕ} → (GoesOn ts i → ⊥) → EndsName ts i
+ends_name none = (λ name h. none (inl (name, h)), λ h. none (inr h))
 
 pub ends_carried : {ts us : List Terminal} (n : ℕ) → Agree n us ts → {i : ℕ} → EndsName ts i → i < n → EndsName us i
 ends_carried {ts} {us} n agree s lt = (λ name h. s.0 name (name_carried n (agree_back us ts agree) h lt), λ h. s.1 (kind_carried n (agree_back us ts agree) h lt))

@@ -12,8 +12,8 @@ use Rattle.px_tree.specs.declared.typings.BaseType.TheVariants as base
 use Rattle.px_tree.specs.declared.typings.«Type».{«Type» as Typing}
 use Rattle.px_exprs.specs.declared.readings.Unread.{Unread}
 use Rattle.px_exprs.specs.declared.readings.Unread.TheVariants as unread
-use Rattle.px_exprs.specs.Terminals.{Terminal, Stands, IsName, IsOperator, IsAt}
-use Rattle.px_exprs.specs.Inputs.{IsInput, terminals_of}
+use Rattle.px_lexer.specs.Terminals.{Terminal, Stands, IsName, IsOperator, IsAt, terminals_of}
+use Rattle.px_exprs.specs.Inputs.{IsInput}
 use Rattle.px_exprs.specs.Readings.{Agree, At, HasWay as FormWay, HasShallow as FormShallow, IsReached as FormReached}
 use Rattle.px_exprs.specs.Runs.{nesting_limit}
 use Rattle.px_exprs.specs.Typings.{IsBase, AreAxes, HasAxes, HasConst, IsTyping}
@@ -22,7 +22,8 @@ use Rattle.px_exprs.specs.Words.{IsStuckAt}
 use Rattle.px_exprs.proofs.Codes.{code_here, name_code}
 use Rattle.px_exprs.proofs.Agreement.{agree_same, agree_back, agree_through, agree_carried, agree_append, agree_take}
 use Rattle.px_exprs.proofs.Keeping.{kind_carried, name_carried, axes_carried, const_carried}
-use Rattle.px_exprs.proofs.TokenReading.{goes_on, length_terminals, stands_within, name_kind}
+use Rattle.px_exprs.proofs.TokenReading.{goes_on}
+use Rattle.px_lexer.proofs.TokenAccess.{length_terminals, stands_within, name_kind}
 use Rattle.px_exprs.proofs.TypingLaws.{axes_unique, const_begins_none}
 use Rattle.px_exprs.proofs.TypeReading.{base_forward, const_of, const_forward}
 use Rattle.px_exprs.proofs.Ways.{sign_token, word_token, word_behind, reached_through}
@@ -31,9 +32,9 @@ use Rattle.px_parser.specs.Shapes.{Mode}
 use Rattle.px_parser.specs.Parsing.{strict, looks_before, unseen_from}
 use Rattle.px_parser.specs.Readings.{HasWay, HasShallow, IsShallow, IsReached, IsStuck, IsUnread, IsReading, Reads, IsArrived, HasBlocks}
 use Rattle.px_parser.specs.Ends.{EndsName}
-use Rattle.px_parser.specs.Parts.{TypedName}
+use Rattle.px_parser.specs.Parts.{TypedName, GoesOn}
 use Rattle.px_parser.specs.ModuleGrammar.{Numbered}
-use Rattle.px_parser.proofs.TypedNames.{SomeName, GoesOn, IsLast, below_or_above, words_go_on, ends_carried, goes_on_carried, base_names, base_carried, no_front, words_end_here, axes_end_words, typing_kept, object_known, numbered_parts, numbered_by}
+use Rattle.px_parser.proofs.TypedNames.{SomeName, IsLast, below_or_above, words_go_on, ends_carried, goes_on_carried, base_names, base_carried, no_front, words_end_here, axes_end_words, typing_kept, object_known, numbered_parts, numbered_by}
 
 -- As a form of its own
 

@@ -1,7 +1,7 @@
 -- Lists of expressions, with or without what they say of commas, are the same tokens.
 use Rattle.std.proofs.Common.{ℕ, Bool, List, refl, ap}
 use Rattle.px_tree.specs.declared.expressions.Expr.{Expr}
-use Rattle.px_exprs.specs.Terminals.{Terminal}
+use Rattle.px_lexer.specs.Terminals.{Terminal}
 use Rattle.px_parser.specs.Shapes.{Mode}
 use Rattle.px_parser.specs.StatementGrammar.{Exprs, expr_list}
 use Rattle.px_parser.specs.Parts.{ExprsRead, is_alone}

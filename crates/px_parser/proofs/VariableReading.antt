@@ -8,14 +8,13 @@ use Rattle.px_tree.specs.declared.expressions.Expr.{Expr}
 use Rattle.px_tree.specs.declared.statements.Declarator.{Declarator}
 use Rattle.px_exprs.specs.declared.readings.Unread.{Unread}
 use Rattle.px_exprs.specs.declared.readings.Unread.TheVariants as unread
-use Rattle.px_exprs.specs.Terminals.{Terminal, HasKind, IsOperator, IsName, IsAt}
+use Rattle.px_lexer.specs.Terminals.{Terminal, HasKind, IsOperator, IsName, IsAt, terminals_of}
 use Rattle.px_exprs.specs.Codes.{Past}
-use Rattle.px_exprs.specs.Inputs.{terminals_of}
 use Rattle.px_exprs.specs.Runs.{nesting_limit}
 use Rattle.px_exprs.specs.Words.{IsStuckAt, IsNamed}
 use Rattle.px_exprs.proofs.Agreement.{agree_back}
 use Rattle.px_exprs.proofs.Keeping.{kind_carried}
-use Rattle.px_exprs.proofs.TokenReading.{length_terminals}
+use Rattle.px_lexer.proofs.TokenAccess.{length_terminals}
 use Rattle.px_parser.specs.declared.readings.Found.{Found}
 use Rattle.px_parser.specs.Shapes.{Token, Name, Gives, Seq, Either, Many, After}
 use Rattle.px_parser.specs.Parsing.{strict}

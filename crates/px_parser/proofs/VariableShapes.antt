@@ -10,15 +10,16 @@ use Rattle.px_tree.specs.declared.typings.«Type».{«Type» as Typing}
 use Rattle.px_tree.specs.declared.statements.Declaration.{Declaration}
 use Rattle.px_tree.specs.declared.statements.Declarator.{Declarator}
 use Rattle.px_tree.specs.declared.statements.Stmt.{Stmt}
-use Rattle.px_exprs.specs.Terminals.{Terminal, HasKind, IsKeyword, IsOperator, IsName, IsAt}
+use Rattle.px_lexer.specs.Terminals.{Terminal, HasKind, IsKeyword, IsOperator, IsName, IsAt}
 use Rattle.px_exprs.specs.Codes.{code_at, Past}
 use Rattle.px_exprs.specs.Readings.{Stops, Agree}
 use Rattle.px_exprs.specs.Typings.{HasConst, IsTyping}
 use Rattle.px_exprs.proofs.Agreement.{agree_back, agree_carried}
-use Rattle.px_exprs.proofs.Codes.{code_here, name_code, one_place}
+use Rattle.px_exprs.proofs.Codes.{code_here, name_code}
+use Rattle.px_lexer.proofs.OneToken.{one_place}
 use Rattle.px_exprs.proofs.Keeping.{place_carried}
 use Rattle.px_exprs.proofs.Stops.{code_carried, kind_stops}
-use Rattle.px_exprs.proofs.TokenReading.{name_kind}
+use Rattle.px_lexer.proofs.TokenAccess.{name_kind}
 use Rattle.px_exprs.proofs.TypeReading.{base_forward}
 use Rattle.px_parser.specs.Shapes.{Mode, Shape, Name, Here, Placed, Seq, Either, Many, After, Before, Maybe, Several, Nested}
 use Rattle.px_parser.specs.Readings.{Anywhere}

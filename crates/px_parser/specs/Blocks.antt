@@ -5,7 +5,7 @@ use denote.Bor.{Bor}
 use Rattle.px_lexer.specs.declared.token_list.Tokens.{Tokens}
 use Rattle.px_tree.specs.declared.statements.Stmt.{Stmt}
 use Rattle.px_exprs.specs.declared.readings.Unread.{Unread}
-use Rattle.px_exprs.specs.Inputs.{terminals_of}
+use Rattle.px_lexer.specs.Terminals.{terminals_of}
 use Rattle.px_parser.specs.declared.readings.Found.{Found}
 use Rattle.px_parser.specs.Listings.{IsListing}
 use Rattle.px_parser.specs.Readings.{Reads, Anywhere}

@@ -5,7 +5,7 @@ use Rattle.px_lexer.specs.declared.spelling.Operator.{Operator}
 use Rattle.px_lexer.specs.declared.spelling.Operator.TheVariants as sign
 use Rattle.px_lexer.specs.declared.token_list.TokenKind.{TokenKind}
 use Rattle.px_lexer.specs.declared.token_list.TokenKind.TheVariants as kind
-use Rattle.px_exprs.specs.Terminals.{HasKind, IsKeyword, IsOperator, IsName}
+use Rattle.px_lexer.specs.Terminals.{HasKind, IsKeyword, IsOperator, IsName}
 use Rattle.px_exprs.specs.Codes.{code_at}
 use Rattle.px_exprs.specs.Readings.{Stops}
 
@@ -16,6 +16,10 @@ EndsExprs ts i = 28 ≤ code_at ts i
 -- a simple statement
 abbrev pub EndsSimple : Stops
 EndsSimple ts i = IsOperator ts i sign.Semicolon ⊎ HasKind ts i kind.Newline
+
+-- a target of a `for`
+abbrev pub EndsLoopTarget : Stops
+EndsLoopTarget ts i = IsOperator ts i sign.Comma ⊎ IsKeyword ts i word.In
 
 -- a name behind a type
 abbrev pub EndsName : Stops

@@ -5,8 +5,7 @@ use Rattle.px_lexer.specs.declared.token_list.Tokens.{Tokens}
 use Rattle.px_lexer.specs.Tokens.{IsTokens}
 use Rattle.px_tree.specs.declared.modules.Comment.{Comment}
 use Rattle.px_tree.specs.declared.modules.Module.{Module}
-use Rattle.px_exprs.specs.Terminals.{Terminal, Stands}
-use Rattle.px_exprs.specs.Inputs.{terminals_of}
+use Rattle.px_lexer.specs.Terminals.{Terminal, Stands, terminals_of}
 use Rattle.px_exprs.specs.NodeNumbers.{AreDistinct}
 use Rattle.px_parser.specs.Listings.{IsListing}
 use Rattle.px_parser.specs.ModuleNumbers.{module_numbers}

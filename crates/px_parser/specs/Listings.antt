@@ -4,8 +4,8 @@ use Rattle.px_lexer.specs.declared.token_list.Tokens.{Tokens}
 use Rattle.px_lexer.specs.declared.token_list.TokenKind.{TokenKind}
 use Rattle.px_lexer.specs.declared.token_list.TokenKind.TheVariants as kind
 use Rattle.px_tree.specs.Names.{IsFunctionName}
-use Rattle.px_exprs.specs.Terminals.{HasKind, IsName}
-use Rattle.px_exprs.specs.Inputs.{IsInput, terminals_of}
+use Rattle.px_lexer.specs.Terminals.{HasKind, IsName, terminals_of}
+use Rattle.px_exprs.specs.Inputs.{IsInput}
 
 pub record IsListing (tokens : Tokens) : Type 0 where
   pub input : IsInput tokens

@@ -49,9 +49,9 @@ Alias = Maybe (After (kind.Keyword word.As) Name)
 unfoldable pub ImportWord : Shape Bool
 ImportWord = Either (Of (λ _. false) (Word word.Import)) (Of (λ _. true) (Word word.Cimport))
 
--- NAME ['as' NAME]
+-- NAME ['as' NAME]; its number is the index of its first NAME
 unfoldable pub Imported : Shape ImportedName
-Imported = Of (λ p. record { name = p.0; alias = p.1 }) (Seq Name Alias)
+Imported = Of (λ (number, (at, (spelled, alias))). record { number = number; at = at; name = spelled; alias = alias }) (Seq Here (Placed (Seq Name Alias)))
 
 -- ('import' | 'cimport') dotted ['as' NAME]
 unfoldable pub WholeImport : Shape (Bool × ImportForm)
@@ -65,7 +65,7 @@ PartImport = After (kind.Keyword word.From) (Of (λ p. (p.1.0, imports.Parts p.0
 --           | 'from' dotted ('import' | 'cimport') NAME ['as' NAME] (',' NAME ['as' NAME])* NEWLINE
 -- its number is the index of its NEWLINE
 unfoldable pub ImportLine : Shape Import
-ImportLine = Of (λ p. record { number = p.1.1; at = p.0; is_cimport = p.1.0.0; form = p.1.0.1 }) (Placed (Seq (Either WholeImport PartImport) (Before Here kind.Newline)))
+ImportLine = Of (λ (at, ((is_cimport, form), number)). record { number = number; at = at; is_cimport = is_cimport; form = form }) (Placed (Seq (Either WholeImport PartImport) (Before Here kind.Newline)))
 
 -- Functions
 
@@ -75,7 +75,7 @@ Truth = Either (Of (λ _. true) (Word word.True)) (Of (λ _. false) (Word word.F
 
 -- decorator : '@' dotted '(' ('True' | 'False') ')' NEWLINE
 unfoldable pub DecoratorLine : Shape Decorator
-DecoratorLine = Of (λ p. record { number = p.0; at = p.1.0; name = p.1.1.1.0; name_at = p.1.1.0; value = p.1.1.1.1 })
+DecoratorLine = Of (λ (number, (at, (name_at, (spelled, value)))). record { number = number; at = at; name = spelled; name_at = name_at; value = value })
     (Seq Here (Placed (After (kind.Operator sign.At) (Placed (Seq Dotted (After (kind.Operator sign.OpenParenthesis) (Before (Before Truth (kind.Operator sign.CloseParenthesis)) kind.Newline)))))))
 
 -- ['not' 'None']; whether it is there
@@ -84,7 +84,7 @@ NotNone = Or false (Of (λ _. true) (Seq (Word word.Not) (Word word.None)))
 
 -- param     : [type] NAME ['not' 'None']; its number is the index of its name
 unfoldable pub Parameter : Shape Param
-Parameter = Of (λ p. record { number = p.1.0.1.0; at = p.0; typing = p.1.0.0; name = p.1.0.1.1; is_not_none = p.1.1 }) (Placed (Seq (Seq (Maybe (Nested IsTyping)) Numbered) NotNone))
+Parameter = Of (λ (at, ((typing, (number, spelled)), is_not_none)). record { number = number; at = at; typing = typing; name = spelled; is_not_none = is_not_none }) (Placed (Seq (Seq (Maybe (Nested IsTyping)) Numbered) NotNone))
 
 -- params    : [param (',' param)* [',']]
 unfoldable pub Parameters : Shape (List Param)
@@ -146,7 +146,7 @@ function_of at decorators header_at head rest = record {
 --           | decorator* ('cdef' | 'cpdef') ['inline'] [type | 'void'] NAME '(' params ')' [exc] [lock] ':' block
 -- its number is the index of its name
 unfoldable pub FunctionForm : Shape Function
-FunctionForm = Of (λ p. function_of p.0 p.1.0 p.1.1.0 p.1.1.1.0 p.1.1.1.1) (Placed (Seq (Many DecoratorLine) (Placed (Then (Either DefHead CHead) (λ head. Rest head.0)))))
+FunctionForm = Of (λ (at, (decorators, (header_at, (head, rest)))). function_of at decorators header_at head rest) (Placed (Seq (Many DecoratorLine) (Placed (Then (Either DefHead CHead) (λ head. Rest head.0)))))
 
 -- Modules
 
@@ -163,4 +163,4 @@ Item = Either (Of (λ _. []) (Token kind.Newline)) (Either (Of one_function Func
 -- module    : (NEWLINE | function | import | statement)* END
 -- with these leading comment lines; its number is the index of its END
 unfoldable pub ModuleForm : List Comment → Shape Module
-ModuleForm comments = Of (λ p. record { number = p.1.1; at = p.0; items = joined p.1.0; comments = comments }) (Placed (Seq (Many Item) (Before Here kind.End)))
+ModuleForm comments = Of (λ (at, (items, number)). record { number = number; at = at; items = joined items; comments = comments }) (Placed (Seq (Many Item) (Before Here kind.End)))

@@ -1,4 +1,5 @@
--- The numbers of the nodes of a module: its own, and those of its items, statements, declared variables, expressions and types.
+-- The numbers of the nodes of a module: its own, and those of its items, imported names, statements, declared variables, expressions
+-- and types.
 use Rattle.std.specs.Prelude.{ℕ, List, [], ◌∷◌, ◌++◌, map, Option, Some, None}
 use Rattle.std.specs.List.{concat}
 use Rattle.px_tree.specs.declared.typings.«Type».{«Type» as Typing}
@@ -7,6 +8,10 @@ use Rattle.px_tree.specs.declared.statements.Declarator.{Declarator}
 use Rattle.px_tree.specs.declared.statements.Stmt.{Stmt}
 use Rattle.px_tree.specs.declared.statements.StmtForm.TheFolds.{fold-Stmt}
 use Rattle.px_tree.specs.declared.statements.StmtForm.TheOpen.{Stmt-F, StmtForm-F, Arm-F}
+use Rattle.px_tree.specs.declared.modules.ImportedName.{ImportedName}
+use Rattle.px_tree.specs.declared.modules.ImportForm.{ImportForm}
+use Rattle.px_tree.specs.declared.modules.ImportForm.TheVariants as imports
+use Rattle.px_tree.specs.declared.modules.Import.{Import}
 use Rattle.px_tree.specs.declared.modules.Decorator.{Decorator}
 use Rattle.px_tree.specs.declared.modules.ResultType.{ResultType}
 use Rattle.px_tree.specs.declared.modules.ResultType.TheVariants as result_type
@@ -95,8 +100,19 @@ abbrev pub function_numbers : Function → List ℕ
 function_numbers f =
     f.number ∷ (numbers_in_each decorator_numbers f.decorators ++ (result_numbers f.gives ++ (numbers_in_each parameter_numbers f.params ++ (exception_numbers f.exception ++ numbers_in_each statement_numbers f.body))))
 
+abbrev pub imported_numbers : ImportedName → List ℕ
+imported_numbers imported = imported.number ∷ []
+
+-- those of what `from` imports
+abbrev pub numbers_in_import : ImportForm → List ℕ
+numbers_in_import (imports.Whole names alias) = []
+numbers_in_import (imports.Parts names parts) = numbers_in_each imported_numbers parts
+
+abbrev pub import_numbers : Import → List ℕ
+import_numbers x = x.number ∷ numbers_in_import x.form
+
 abbrev pub item_numbers : ModuleItem → List ℕ
-item_numbers (module_item.Import x) = x.number ∷ []
+item_numbers (module_item.Import x) = import_numbers x
 item_numbers (module_item.Function f) = function_numbers f
 item_numbers (module_item.Statement s) = statement_numbers s
 

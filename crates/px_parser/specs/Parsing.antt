@@ -8,8 +8,7 @@ use Rattle.px_lexer.specs.declared.token_list.Comment.{Comment as CommentToken}
 use Rattle.px_lexer.specs.declared.token_list.TokenKind.TheVariants as kind
 use Rattle.px_tree.specs.declared.modules.Comment.{Comment}
 use Rattle.px_tree.specs.declared.modules.Module.{Module}
-use Rattle.px_exprs.specs.Terminals.{Terminal, HasKind, IsKeyword, IsAt}
-use Rattle.px_exprs.specs.Inputs.{terminals_of}
+use Rattle.px_lexer.specs.Terminals.{Terminal, HasKind, IsKeyword, IsAt, terminals_of}
 use Rattle.px_exprs.specs.Runs.{nesting_limit, IsRefusalAt}
 use Rattle.px_parser.specs.Shapes.{Mode}
 use Rattle.px_parser.specs.ModuleGrammar.{ModuleForm}

@@ -1,5 +1,5 @@
 -- Parts of statements as the reader reads them.
-use Rattle.std.specs.Prelude.{◌≡◌, ℕ, Bool, true, false, List, [], ◌∷◌, map, Option, Some, None}
+use Rattle.std.specs.Prelude.{◌≡◌, ◌⊎◌, ℕ, suc, Bool, true, false, List, [], ◌∷◌, map, codes, Option, Some, None}
 use Rattle.px_base.specs.declared.refusals.Span.{Span}
 use Rattle.px_lexer.specs.declared.spelling.Operator.{Operator}
 use Rattle.px_lexer.specs.declared.spelling.Operator.TheVariants as sign
@@ -8,6 +8,7 @@ use Rattle.px_tree.specs.declared.expressions.Expr.{Expr}
 use Rattle.px_tree.specs.declared.expressions.ExprForm.TheVariants as form
 use Rattle.px_tree.specs.declared.expressions.Trailer.{Trailer}
 use Rattle.px_tree.specs.declared.statements.StmtForm.{StmtForm}
+use Rattle.px_tree.specs.declared.typings.BaseType.{BaseType}
 use Rattle.px_tree.specs.declared.typings.«Type».{«Type» as Typing}
 use Rattle.px_tree.specs.declared.modules.ResultType.{ResultType}
 use Rattle.px_tree.specs.declared.statements.Declarator.{Declarator}
@@ -16,8 +17,10 @@ use Rattle.px_tree.specs.declared.modules.ExceptionForm.{ExceptionForm}
 use Rattle.px_tree.specs.declared.modules.ExceptionForm.TheVariants as exception
 use Rattle.px_tree.specs.declared.modules.ModuleItem.{ModuleItem}
 use Rattle.px_tree.specs.declared.modules.ModuleItem.TheVariants as module_item
+use Rattle.px_lexer.specs.Terminals.{IsName, IsOperator}
 use Rattle.px_exprs.specs.Grammar.{node, IsExpr}
-use Rattle.px_exprs.specs.Typings.{IsTyping}
+use Rattle.px_exprs.specs.Readings.{Stops}
+use Rattle.px_exprs.specs.Typings.{IsBase, IsTyping}
 use Rattle.px_parser.specs.Shapes.{Shape, Sign, Name, Seq, Here, Placed, Of, After, Before, Either, Many, Maybe, Separated, Elements, Nested}
 use Rattle.px_parser.specs.StatementGrammar.{IsWithinLimit, EndsWithSubscript, InBrackets, expr_list, Assignment, Augmentation, Decl, Declare, alone, joined}
 use Rattle.px_parser.specs.ModuleGrammar.{Numbered, Result, DefHead, CHead, Item, FunctionForm, one_function}
@@ -31,7 +34,7 @@ is_alone (Some others) = false
 
 -- exprs, and whether they are one expression without a comma
 unfoldable pub ExprsRead : Shape (Expr × Bool)
-ExprsRead = Of (λ p. (expr_list p.0 p.1.0 p.1.1.0 p.1.1.1, is_alone p.1.1.1)) (Placed (Seq IsWithinLimit (Seq Here (Maybe (After (kind.Operator sign.Comma) (Elements (kind.Operator sign.Comma) IsWithinLimit))))))
+ExprsRead = Of (λ (at, (first, (number, others))). (expr_list at first number others, is_alone others)) (Placed (Seq IsWithinLimit (Seq Here (Maybe (After (kind.Operator sign.Comma) (Elements (kind.Operator sign.Comma) IsWithinLimit))))))
 
 -- Targets
 
@@ -51,6 +54,14 @@ unfoldable pub Assigned : Shape StmtForm
 Assigned = Either Assignment Augmentation
 
 -- Names behind types, with the index of the name
+
+-- the first word of a type: `const`, or a base of one word
+abbrev pub BeginsType : Stops
+BeginsType ts i = IsName ts i (codes "const") ⊎ ((b : BaseType) × IsBase ts i b (suc i))
+
+-- a name behind a type can't end before an identifier or a bracket that opens axes
+abbrev pub GoesOn : Stops
+GoesOn ts i = ((name : List ℕ) × IsName ts i name) ⊎ IsOperator ts i sign.OpenBracket
 
 unfoldable pub TypedName : Shape (Typing × ℕ)
 TypedName = Of (λ p. (p.0, p.1.0)) (Seq (Nested IsTyping) Numbered)
@@ -79,12 +90,16 @@ DeclRest = Seq (Maybe (After (kind.Operator sign.Equal) IsWithinLimit)) (Seq (Ma
 
 -- Parts of functions and modules
 
+-- a head, of whose name the index alone is kept
+abbrev pub without_name : FunctionKind × (Bool × (ResultType × (ℕ × List ℕ))) → FunctionKind × (Bool × (ResultType × ℕ))
+without_name = λ (function, (is_inline, (gives, (number, spelled)))). (function, (is_inline, (gives, number)))
+
 -- 'def' or the head of a C function, with the index of the name
 unfoldable pub HeadRead : Shape (FunctionKind × (Bool × (ResultType × ℕ)))
-HeadRead = Of (λ p. (p.0, (p.1.0, (p.1.1.0, p.1.1.1.0)))) (Either DefHead CHead)
+HeadRead = Of without_name (Either DefHead CHead)
 
 unfoldable pub CHeadRead : Shape (FunctionKind × (Bool × (ResultType × ℕ)))
-CHeadRead = Of (λ p. (p.0, (p.1.0, (p.1.1.0, p.1.1.1.0)))) CHead
+CHeadRead = Of without_name CHead
 
 -- what stands behind `except`
 unfoldable pub Caught : Shape ExceptionForm

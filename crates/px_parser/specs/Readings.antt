@@ -3,9 +3,10 @@ use Rattle.std.specs.Prelude.{◌≡◌, ℕ, suc, ◌≤◌, ◌<◌, List, len
 use Rattle.px_lexer.specs.declared.spelling.Keyword.TheVariants as word
 use Rattle.px_exprs.specs.declared.readings.Unread.{Unread}
 use Rattle.px_exprs.specs.declared.readings.Unread.TheVariants as unread
-use Rattle.px_exprs.specs.Terminals.{Terminal, IsKeyword}
+use Rattle.px_lexer.specs.Terminals.{Terminal, IsKeyword}
 use Rattle.px_exprs.specs.Readings.{Stops, Agree}
 use Rattle.px_exprs.specs.Runs.{nesting_limit}
+use Rattle.px_exprs.specs.Words.{IsStuckAt}
 use Rattle.px_parser.specs.declared.readings.Found.{Found}
 use Rattle.px_parser.specs.Shapes.{Shape}
 use Rattle.px_parser.specs.Parsing.{strict, unseen_from, looks_before, AreTogether}
@@ -83,6 +84,20 @@ Reads X S ts from room (Err unread) = IsUnread X S ts from room unread
 -- a form without blocks, so that it doesn't matter how many may stand in it
 abbrev pub ReadsFlat : {A : Type 0} → Shape A → Stops → List Terminal → ℕ → Result (Found A) Unread → Type 0
 ReadsFlat X S ts from result = (room : ℕ) → Reads X S ts from room result
+
+-- A form of single tokens: its reader needs no memory, and is never too deep
+
+pub record IsMisread {A : Type 0} (X : Shape A) (S : Stops) (ts : List Terminal) (from room : ℕ) (unread : Unread) : Type 0 where
+  pub at : ℕ
+  pub is : IsStuckAt at unread
+  pub stuck : IsStuck X S ts from room at
+
+abbrev pub ReadsWithin : {A : Type 0} → Shape A → Stops → List Terminal → ℕ → ℕ → Result (Found A) Unread → Type 0
+ReadsWithin X S ts from room (Ok found) = IsReading X S ts from room found.tree found.to
+ReadsWithin X S ts from room (Err unread) = IsMisread X S ts from room unread
+
+abbrev pub ReadsTokens : {A : Type 0} → Shape A → Stops → List Terminal → ℕ → Result (Found A) Unread → Type 0
+ReadsTokens X S ts from result = (room : ℕ) → ReadsWithin X S ts from room result
 
 -- Places where forms end
 

@@ -6,7 +6,7 @@ use Rattle.px_lexer.specs.declared.spelling.Keyword.{Keyword}
 use Rattle.px_lexer.specs.declared.spelling.Operator.{Operator}
 use Rattle.px_lexer.specs.declared.token_list.TokenKind.{TokenKind}
 use Rattle.px_lexer.specs.declared.token_list.TokenKind.TheVariants as kind
-use Rattle.px_exprs.specs.Terminals.{Terminal, HasKind, IsName, IsAt}
+use Rattle.px_lexer.specs.Terminals.{Terminal, HasKind, IsName, IsAt}
 use Rattle.px_exprs.specs.Readings.{Form}
 
 -- what is looked at

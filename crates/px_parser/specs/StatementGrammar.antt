@@ -21,7 +21,7 @@ use Rattle.px_tree.specs.declared.statements.Stmt.{Stmt, roll-Stmt}
 use Rattle.px_tree.specs.declared.statements.StmtForm.{StmtForm}
 use Rattle.px_tree.specs.declared.statements.StmtForm.TheVariants as statement
 use Rattle.px_tree.specs.declared.statements.Arm.{Arm, roll-Arm}
-use Rattle.px_exprs.specs.Terminals.{Terminal, IsName, IsOperator, IsAt}
+use Rattle.px_lexer.specs.Terminals.{Terminal, IsName, IsOperator, IsAt}
 use Rattle.px_exprs.specs.Typings.{IsTyping}
 use Rattle.px_exprs.specs.Grammar.{node, IsOf, IsExpr, IsAtom, AreTrailers, HasComma}
 use Rattle.px_exprs.specs.Readings.{Form}
@@ -42,7 +42,7 @@ expr_list at first number (Some others) = node number at (form.Tuple (first ∷ 
 
 -- X (',' X)* [',']
 abbrev pub CommaList : Shape Expr → Shape Expr
-CommaList X = Of (λ p. expr_list p.0 p.1.0 p.1.1.0 p.1.1.1) (Placed (Seq X (Seq Here (Maybe (After (kind.Operator sign.Comma) (Elements (kind.Operator sign.Comma) X))))))
+CommaList X = Of (λ (at, (first, (number, others))). expr_list at first number others) (Placed (Seq X (Seq Here (Maybe (After (kind.Operator sign.Comma) (Elements (kind.Operator sign.Comma) X))))))
 
 abbrev pub IsWithinLimit : Shape Expr
 IsWithinLimit = Nested IsExpr
@@ -87,7 +87,7 @@ loop_target at first number (second ∷ others) = node number at (form.Tuple (fi
 
 -- target (',' target)*, as in `for`: no comma stands behind the last
 unfoldable pub LoopTargets : Shape Expr
-LoopTargets = Of (λ p. loop_target p.0 p.1.0 p.1.1.0 p.1.1.1) (Placed (Seq (Nested IsTarget) (Seq Here (Many (After (kind.Operator sign.Comma) (Nested IsTarget))))))
+LoopTargets = Of (λ (at, (first, (number, others))). loop_target at first number others) (Placed (Seq (Nested IsTarget) (Seq Here (Many (After (kind.Operator sign.Comma) (Nested IsTarget))))))
 
 -- Simple statements
 
@@ -136,7 +136,7 @@ SimpleForm =
 
 -- its number is the index of the `;` or NEWLINE that ends it
 unfoldable pub Simple : Shape Stmt
-Simple = Of (λ p. statement_node p.1.1 p.0 p.1.0) (Placed (Seq SimpleForm Here))
+Simple = Of (λ (at, (form, number)). statement_node number at form) (Placed (Seq SimpleForm Here))
 
 -- line      : simple (';' simple)* [';'] NEWLINE
 unfoldable pub Line : Shape (List Stmt)
@@ -146,7 +146,7 @@ Line = Before (Listed (kind.Operator sign.Semicolon) Simple) kind.Newline
 
 -- decl      : NAME ['=' expr]
 unfoldable pub Decl : Shape Declarator
-Decl = Of (λ p. record { number = p.0; at = p.1.0; name = p.1.1.0; value = p.1.1.1 }) (Seq Here (Placed (Seq Name (Maybe (After (kind.Operator sign.Equal) IsWithinLimit)))))
+Decl = Of (λ (number, (at, (spelled, value))). record { number = number; at = at; name = spelled; value = value }) (Seq Here (Placed (Seq Name (Maybe (After (kind.Operator sign.Equal) IsWithinLimit)))))
 
 -- decls     : decl (',' decl)*
 unfoldable pub Decls : Shape (List Declarator)
@@ -161,15 +161,15 @@ declaration_of number at p = record { number = number; at = at; typing = p.0; na
 
 -- 'cdef' type decls NEWLINE; its number is the index of its NEWLINE, and that of the declaration the index of the `cdef`
 unfoldable pub DeclareLine : Shape Stmt
-DeclareLine = Of (λ p. statement_node p.1.1.1.1 p.1.0 (statement.Declare (declaration_of p.0 p.1.0 p.1.1))) (Seq Here (Placed (After (kind.Keyword word.Cdef) Declared)))
+DeclareLine = Of (λ (number, (at, declared)). statement_node declared.1.1 at (statement.Declare (declaration_of number at declared))) (Seq Here (Placed (After (kind.Keyword word.Cdef) Declared)))
 
 -- type decls NEWLINE in a group; its number is the index of its NEWLINE
 unfoldable pub GroupLine : Shape Declaration
-GroupLine = Of (λ p. declaration_of p.1.1.1 p.0 p.1) (Placed Declared)
+GroupLine = Of (λ (at, declared). declaration_of declared.1.1 at declared) (Placed Declared)
 
 -- 'cdef' ':' NEWLINE INDENT (type decls NEWLINE)+ DEDENT; its number is the index of its colon
 unfoldable pub DeclareGroup : Shape Stmt
-DeclareGroup = Of (λ p. statement_node p.1.0 p.0 (statement.DeclareGroup p.1.1)) (Placed (After (kind.Keyword word.Cdef) (Seq (Before Here (kind.Operator sign.Colon))
+DeclareGroup = Of (λ (at, (number, lines)). statement_node number at (statement.DeclareGroup lines)) (Placed (After (kind.Keyword word.Cdef) (Seq (Before Here (kind.Operator sign.Colon))
     (After kind.Newline (After kind.Indent (Before (Several GroupLine) kind.Dedent))))))
 
 -- declare   : 'cdef' type decls NEWLINE | 'cdef' ':' NEWLINE INDENT (type decls NEWLINE)+ DEDENT
@@ -191,22 +191,22 @@ unfoldable pub Armed : Keyword → Shape (List Stmt) → Shape (ℕ × (Span × 
 Armed w block = Seq Here (Guarded w block)
 
 abbrev pub arm_of : ℕ × (Span × (Expr × (ℕ × List Stmt))) → Arm
-arm_of p = arm_node p.0 p.1.0 p.1.1.0 p.1.1.1.1
+arm_of = λ (number, (at, (test, (colon, block)))). arm_node number at test block
 
 abbrev pub if_of : ℕ × (Span × (Expr × (ℕ × List Stmt))) → List Arm → Option (List Stmt) → Stmt
 if_of p others otherwise = statement_node p.1.1.1.0 p.1.0 (statement.If (arm_of p ∷ others) otherwise)
 
 -- if        : 'if' expr ':' block ('elif' expr ':' block)* ['else' ':' block]
 unfoldable pub If : Shape (List Stmt) → Shape Stmt
-If block = Of (λ p. if_of p.0 p.1.0 p.1.1) (Seq (Armed word.If block) (Seq (Many (Of arm_of (Armed word.Elif block))) (Maybe (After (kind.Keyword word.Else) (After (kind.Operator sign.Colon) block)))))
+If block = Of (λ (first, (others, otherwise)). if_of first others otherwise) (Seq (Armed word.If block) (Seq (Many (Of arm_of (Armed word.Elif block))) (Maybe (After (kind.Keyword word.Else) (After (kind.Operator sign.Colon) block)))))
 
 -- while     : 'while' expr ':' block
 unfoldable pub While : Shape (List Stmt) → Shape Stmt
-While block = Of (λ p. statement_node p.1.1.0 p.0 (statement.While p.1.0 p.1.1.1)) (Guarded word.While block)
+While block = Of (λ (at, (test, (number, body))). statement_node number at (statement.While test body)) (Guarded word.While block)
 
 -- for       : 'for' target (',' target)* 'in' exprs ':' block
 unfoldable pub For : Shape (List Stmt) → Shape Stmt
-For block = Of (λ p. statement_node p.1.1.1.0 p.0 (statement.For p.1.0 p.1.1.0 p.1.1.1.1)) (Placed (After (kind.Keyword word.For) (Seq LoopTargets (After (kind.Keyword word.In) (Seq Exprs (Body block))))))
+For block = Of (λ (at, (target, (value, (number, body)))). statement_node number at (statement.For target value body)) (Placed (After (kind.Keyword word.For) (Seq LoopTargets (After (kind.Keyword word.In) (Seq Exprs (Body block))))))
 
 -- 'gil' | 'nogil'
 unfoldable pub LockWord : Shape (List Stmt → StmtForm)
@@ -214,7 +214,7 @@ LockWord = Either (Of (λ _. statement.WithGil) (Soft (codes "gil"))) (Of (λ _.
 
 -- with      : 'with' ('gil' | 'nogil') ':' block
 unfoldable pub With : Shape (List Stmt) → Shape Stmt
-With block = Of (λ p. statement_node p.1.1.0 p.0 (p.1.0 p.1.1.1)) (Placed (After (kind.Keyword word.With) (Seq LockWord (Body block))))
+With block = Of (λ (at, (form, (number, body))). statement_node number at (form body)) (Placed (After (kind.Keyword word.With) (Seq LockWord (Body block))))
 
 abbrev pub alone : Stmt → List Stmt
 alone s = s ∷ []

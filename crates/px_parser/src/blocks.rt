@@ -3,9 +3,8 @@
 ghost use Rattle.std.specs.Prelude.{◌≡◌, ◌<◌, ◌≤◌, [], ◌∷◌, length, MatchOption, MatchResult, suc};
 ghost use Rattle.px_exprs.specs.declared.readings.Unread.TheVariants.{NoMemory};
 ghost use Rattle.px_lexer.specs.declared.token_list.TokenKind.TheVariants as kind;
-ghost use Rattle.px_exprs.specs.Inputs.{terminals_of};
+ghost use Rattle.px_lexer.specs.Terminals.{terminals_of, HasKind};
 ghost use Rattle.px_exprs.specs.Runs.{nesting_limit};
-ghost use Rattle.px_exprs.specs.Terminals.{HasKind};
 ghost use Rattle.px_exprs.specs.Words.{IsStuckAt};
 ghost use Rattle.px_parser.specs.Blocks.{NestsBlocks};
 ghost use Rattle.px_parser.specs.Ends.{EndsArms, EndsSimple, IsBefore};
@@ -19,7 +18,7 @@ use crate::simple::{line, simple};
 use crate::variables::declare;
 use crate::words::{dedent, indent, is_dedent, is_indent, is_newline, newline};
 use px_exprs::readings::Unread;
-use px_exprs::words::{is_keyword, place};
+use px_lexer::access::{is_keyword, place};
 use px_lexer::{Keyword, Tokens};
 use px_tree::{Stmt, room_for_one};
 use sqlite_items::Items;
@@ -34,7 +33,7 @@ pub(crate) struct Statements<F> {
 }
 
 /// One statement.
-pub(crate) fn alone(alloc: Global, statement: Stmt) -> Result<Items<Stmt>, Unread>
+pub(crate) fn alone<T: Drop>(alloc: Global, statement: T) -> Result<Items<T>, Unread>
     ensures { MatchResult result (λ all. all ≡ statement ∷ []) (λ unread. unread ≡ NoMemory) }
 {
     let mut all = room_for_one(alloc)?;
@@ -122,7 +121,7 @@ impl<F: Fn(Global, &Tokens, usize, usize) -> Result<Found<Items<Stmt>>, Unread>>
     ///
     /// # Errors
     /// As `statement`.
-    fn indented(
+    fn indented_block(
         &self,
         tokens: &Tokens,
         room: usize,
@@ -162,7 +161,7 @@ fn no_room_behind_line(tokens: &Tokens, from: usize) -> Unread
 }
 
 /// The token at which a simple statement isn't read, if it isn't.
-fn refused(alloc: Global, tokens: &Tokens, from: usize) -> Option<Unread>
+fn block_refusal(alloc: Global, tokens: &Tokens, from: usize) -> Option<Unread>
     requires input { IsListing tokens.now }
     requires inside { from < length tokens.now.list }
     ensures { MatchOption result (HasWay Simple (terminals_of tokens.now) from (suc from)) (λ unread. IsUnread Simple EndsSimple (terminals_of tokens.now) from 0 unread) }
@@ -179,7 +178,7 @@ fn no_room(alloc: Global, tokens: &Tokens, from: usize) -> Unread
     if is_newline(tokens, from) {
         return no_room_behind_line(tokens, from);
     }
-    let Some(unread) = refused(alloc, tokens, from) else {
+    let Some(unread) = block_refusal(alloc, tokens, from) else {
         return Unread::TooDeep(from);
     };
     match unread {
@@ -215,7 +214,7 @@ pub(crate) fn block(
     }
     if is_newline(tokens, from) {
         let readers = Statements { alloc, block };
-        readers.indented(tokens, room - 1, from)
+        readers.indented_block(tokens, room - 1, from)
     } else {
         line(alloc, tokens, from)
     }

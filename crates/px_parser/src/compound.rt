@@ -2,11 +2,10 @@
 
 ghost use Rattle.std.specs.Prelude.{◌≡◌, ◌<◌, length};
 ghost use Rattle.px_base.specs.declared.refusals.Span.{Span};
-ghost use Rattle.px_exprs.specs.Terminals.{IsAt};
+ghost use Rattle.px_lexer.specs.Terminals.{IsAt, terminals_of};
 ghost use Rattle.px_lexer.specs.declared.spelling.Keyword.TheVariants as word;
 ghost use Rattle.px_lexer.specs.declared.spelling.Operator.TheVariants as sign;
 ghost use Rattle.px_lexer.specs.declared.token_list.TokenKind.TheVariants as kind;
-ghost use Rattle.px_exprs.specs.Inputs.{terminals_of};
 ghost use Rattle.px_parser.specs.Blocks.{NestsBlocks};
 ghost use Rattle.px_parser.specs.Ends.{EndsArms, EndsElifs};
 ghost use Rattle.px_parser.specs.Listings.{IsListing};
@@ -21,7 +20,8 @@ use crate::targets::loop_targets;
 use crate::words::{keyword, operator};
 use px_base::Span;
 use px_exprs::readings::Unread;
-use px_exprs::words::{is_keyword, is_word, place};
+use px_exprs::words::is_word;
+use px_lexer::access::{is_keyword, place};
 use px_lexer::{Keyword, Operator, Tokens};
 use px_tree::{Arm, Expr, Stmt, StmtForm, room_for_one};
 use sqlite_items::{Boxed, Items};
@@ -38,11 +38,12 @@ fn arm(number: usize, found: Guarded) -> Arm
     requires { number < 4294967296 }
     ensures { result ≡ arm_of (number, found) }
 {
+    let (at, (test, (_, block))) = found;
     Arm {
         number: number as u32,
-        at: found.0,
-        test: found.1.0,
-        block: found.1.1.1,
+        at,
+        test,
+        block,
     }
 }
 
@@ -82,7 +83,7 @@ impl<F: Fn(Global, &Tokens, usize, usize) -> Result<Found<Items<Stmt>>, Unread>>
     ///
     /// # Errors
     /// As `statement`.
-    fn guarded(
+    fn guarded_block(
         &self,
         tokens: &Tokens,
         room: usize,
@@ -96,9 +97,11 @@ impl<F: Fn(Global, &Tokens, usize, usize) -> Result<Found<Items<Stmt>>, Unread>>
     {
         let word = keyword(tokens, from, word)?;
         let test = expr(self.alloc, tokens, word.to)?;
-        let body = self.body(tokens, room, test.to)?;
+        let test_to = test.to;
+        let test_tree = Boxed::new(self.alloc, test.tree)?;
+        let body = self.body(tokens, room, test_to)?;
         Ok(Found {
-            tree: (place(tokens, from), (test.tree, body.tree)),
+            tree: (place(tokens, from), (test_tree.into_inner(), body.tree)),
             to: body.to,
         })
     }
@@ -116,7 +119,7 @@ impl<F: Fn(Global, &Tokens, usize, usize) -> Result<Found<Items<Stmt>>, Unread>>
         let mut tree = Items::new(self.alloc);
         let mut to = from;
         while is_keyword(tokens, to, Keyword::Elif) {
-            let next = self.guarded(tokens, room, to, Keyword::Elif)?;
+            let next = self.guarded_block(tokens, room, to, Keyword::Elif)?;
             tree.push(arm(to, next.tree))?;
             to = next.to;
         }
@@ -160,13 +163,14 @@ impl<F: Fn(Global, &Tokens, usize, usize) -> Result<Found<Items<Stmt>>, Unread>>
         requires nests { NestsBlocks room (F.pre self.now.block) (F.post self.now.block) }
         ensures { Reads (If Block) EndsArms (terminals_of tokens.now) from room result }
     {
-        let first = self.guarded(tokens, room, from, Keyword::If)?;
-        let others = self.elifs(tokens, room, first.to)?;
-        let otherwise = self.otherwise(tokens, room, others.to)?;
-        let number = first.tree.1.1.0;
-        let to = otherwise.to;
         let mut arms = room_for_one(self.alloc)?;
+        let first = self.guarded_block(tokens, room, from, Keyword::If)?;
+        let first_to = first.to;
+        let number = first.tree.1.1.0;
         arms.push(arm(from, first.tree))?;
+        let others = self.elifs(tokens, room, first_to)?;
+        let otherwise = self.otherwise(tokens, room, others.to)?;
+        let to = otherwise.to;
         arms.append(others.tree)?;
         let tree = compound(tokens, from, number, StmtForm::If(arms, otherwise.tree));
         Ok(Found { tree, to })
@@ -187,7 +191,7 @@ impl<F: Fn(Global, &Tokens, usize, usize) -> Result<Found<Items<Stmt>>, Unread>>
         requires nests { NestsBlocks room (F.pre self.now.block) (F.post self.now.block) }
         ensures { Reads (While Block) Anywhere (terminals_of tokens.now) from room result }
     {
-        let found = self.guarded(tokens, room, from, Keyword::While)?;
+        let found = self.guarded_block(tokens, room, from, Keyword::While)?;
         let to = found.to;
         let (_, (test, (number, block))) = found.tree;
         let tree = compound(tokens, from, number, StmtForm::While(test, block));
@@ -211,12 +215,16 @@ impl<F: Fn(Global, &Tokens, usize, usize) -> Result<Found<Items<Stmt>>, Unread>>
     {
         let word = keyword(tokens, from, Keyword::For)?;
         let target = loop_targets(self.alloc, tokens, word.to)?;
-        let behind = keyword(tokens, target.to, Keyword::In)?;
+        let target_to = target.to;
+        let target_tree = Boxed::new(self.alloc, target.tree)?;
+        let behind = keyword(tokens, target_to, Keyword::In)?;
         let value = values(self.alloc, tokens, behind.to)?;
-        let body = self.body(tokens, room, value.to)?;
+        let value_to = value.to;
+        let value_tree = Boxed::new(self.alloc, value.tree)?;
+        let body = self.body(tokens, room, value_to)?;
         let to = body.to;
         let (number, block) = body.tree;
-        let form = StmtForm::For(target.tree, Boxed::new(self.alloc, value.tree)?, block);
+        let form = StmtForm::For(target_tree.into_inner(), value_tree, block);
         let tree = compound(tokens, from, number, form);
         Ok(Found { tree, to })
     }

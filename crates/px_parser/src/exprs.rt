@@ -4,9 +4,8 @@ ghost use Rattle.std.specs.Prelude.{◌≡◌, ◌<◌, ◌∷◌, length, Some,
 ghost use Rattle.px_lexer.specs.declared.spelling.Operator.TheVariants as sign;
 ghost use Rattle.px_lexer.specs.declared.token_list.TokenKind.TheVariants as kind;
 ghost use Rattle.px_base.specs.declared.refusals.Span.{Span};
-ghost use Rattle.px_exprs.specs.Terminals.{IsAt};
-ghost use Rattle.px_exprs.specs.Inputs.{terminals_of};
-ghost use Rattle.px_exprs.specs.Codes.{Past};
+ghost use Rattle.px_lexer.specs.Terminals.{IsAt, terminals_of};
+ghost use Rattle.px_exprs.specs.Codes.{EndsExpr};
 ghost use Rattle.px_exprs.specs.Words.{IsStuckAt};
 ghost use Rattle.px_parser.specs.Listings.{IsListing};
 ghost use Rattle.px_parser.specs.Readings.{ReadsFlat};
@@ -18,12 +17,13 @@ ghost use Rattle.px_parser.specs.Ends.{EndsExprs};
 use crate::readings::Found;
 use crate::words::ends_exprs;
 use px_exprs::grammar;
-use px_exprs::nodes::{joined, node};
+use px_exprs::nodes::{node, prepend};
 use px_exprs::readings::Unread;
-use px_exprs::words::{begins_expr, is_operator};
+use px_exprs::words::begins_expr;
+use px_lexer::access::is_operator;
 use px_lexer::{Operator, Tokens};
 use px_tree::{Expr, ExprForm};
-use sqlite_items::Items;
+use sqlite_items::{Boxed, Items};
 use std::alloc::{AllocError, Global};
 
 /// The greatest nesting of an expression, and the greatest number of blocks round a token.
@@ -36,7 +36,7 @@ pub(crate) const NESTING_LIMIT: usize = 64;
 pub(crate) fn expr(alloc: Global, tokens: &Tokens, from: usize) -> Result<Found<Expr>, Unread>
     requires input { IsListing tokens.now }
     requires inside { from < length tokens.now.list }
-    ensures { ReadsFlat IsWithinLimit (Past 26) (terminals_of tokens.now) from result }
+    ensures { ReadsFlat IsWithinLimit EndsExpr (terminals_of tokens.now) from result }
 {
     let read = grammar::expr(alloc, tokens, NESTING_LIMIT, from)?;
     Ok(Found {
@@ -45,11 +45,11 @@ pub(crate) fn expr(alloc: Global, tokens: &Tokens, from: usize) -> Result<Found<
     })
 }
 
-/// Elements that were read, where a list of expressions may end behind them.
+/// What was read, where a list of expressions may end behind it.
 ///
 /// # Errors
 /// `Stuck` where it can't.
-fn closed(tokens: &Tokens, tree: Items<Expr>, to: usize) -> Result<Found<Items<Expr>>, Unread>
+fn keep_before_end<T: Drop>(tokens: &Tokens, tree: T, to: usize) -> Result<Found<T>, Unread>
     ensures { MatchResult result
         (λ found. (found.tree ≡ tree) × (found.to ≡ to) × EndsExprs (terminals_of tokens.now) to)
         (λ unread. IsStuckAt to unread × (EndsExprs (terminals_of tokens.now) to → ⊥)) }
@@ -76,11 +76,11 @@ fn others(alloc: Global, tokens: &Tokens, from: usize) -> Result<Found<Items<Exp
         let next = expr(alloc, tokens, to)?;
         items.push(next.tree)?;
         if !is_operator(tokens, next.to, Operator::Comma) {
-            return closed(tokens, items, next.to);
+            return keep_before_end(tokens, items, next.to);
         }
         to = next.to + 1;
     }
-    closed(tokens, items, to)
+    keep_before_end(tokens, items, to)
 }
 
 /// The list of these expressions: the first, at an index, and others behind the comma at another.
@@ -91,7 +91,7 @@ pub(crate) fn list(
     alloc: Global,
     tokens: &Tokens,
     from: usize,
-    first: Expr,
+    first: Boxed<Expr>,
     comma: usize,
     others: Items<Expr>,
 ) -> Result<Expr, AllocError>
@@ -100,7 +100,7 @@ pub(crate) fn list(
     requires behind { comma < length tokens.now.list }
     ensures { IfOk result (λ made. (at : Span) × IsAt (terminals_of tokens.now) from at × (made ≡ expr_list at first comma (Some others))) }
 {
-    let items = joined(alloc, first, others)?;
+    let items = prepend(alloc, first, others)?;
     Ok(node(tokens, comma, from, ExprForm::Tuple(items)))
 }
 
@@ -119,22 +119,16 @@ pub(crate) fn exprs(
 {
     let first = expr(alloc, tokens, from)?;
     let comma = first.to;
-    if is_operator(tokens, comma, Operator::Comma) {
-        let others = others(alloc, tokens, comma + 1)?;
-        let tree = list(alloc, tokens, from, first.tree, comma, others.tree)?;
-        return Ok(Found {
-            tree: (tree, false),
-            to: others.to,
-        });
+    if !is_operator(tokens, comma, Operator::Comma) {
+        return keep_before_end(tokens, (first.tree, true), comma);
     }
-    if ends_exprs(tokens, comma) {
-        Ok(Found {
-            tree: (first.tree, true),
-            to: comma,
-        })
-    } else {
-        Err(Unread::Stuck(comma))
-    }
+    let first_tree = Boxed::new(alloc, first.tree)?;
+    let others = others(alloc, tokens, comma + 1)?;
+    let tree = list(alloc, tokens, from, first_tree, comma, others.tree)?;
+    Ok(Found {
+        tree: (tree, false),
+        to: others.to,
+    })
 }
 
 /// The expressions from an index on.

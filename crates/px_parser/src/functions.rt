@@ -4,40 +4,40 @@ ghost use Rattle.std.specs.Prelude.{◌≡◌, ◌<◌, List, ℕ, length, Match
 ghost use Rattle.px_base.specs.declared.refusals.Span.{Span};
 ghost use Rattle.px_lexer.specs.declared.spelling.Operator.TheVariants as sign;
 ghost use Rattle.px_lexer.specs.declared.token_list.TokenKind.TheVariants as kind;
-ghost use Rattle.px_exprs.specs.Inputs.{terminals_of};
+ghost use Rattle.px_lexer.specs.Terminals.{terminals_of, IsAt, IsName};
 ghost use Rattle.px_exprs.specs.Runs.{nesting_limit};
-ghost use Rattle.px_exprs.specs.Terminals.{IsAt, IsName};
 ghost use Rattle.px_exprs.specs.Words.{IsStuckAt};
 ghost use Rattle.px_exprs.specs.declared.readings.Unread.TheVariants.{NoMemory};
 ghost use Rattle.px_parser.specs.Ends.{EndsParameter, EndsDecorators, EndsException, EndsName, IsBefore};
 ghost use Rattle.px_parser.specs.Listings.{IsListing};
 ghost use Rattle.px_parser.specs.ModuleGrammar.{Truth, DecoratorLine, NotNone, Parameter, Parameters, Exception, LockForm, Tail, Rest, FunctionForm, function_of};
 ghost use Rattle.px_parser.specs.Parts.{HeadRead, CHeadRead, Caught};
-ghost use Rattle.px_parser.specs.Readings.{Reads, ReadsFlat, Anywhere};
+ghost use Rattle.px_parser.specs.Readings.{Reads, ReadsFlat, ReadsTokens, Anywhere};
 ghost use Rattle.px_parser.specs.Shapes.{Many};
 
 use crate::blocks::block;
 use crate::exprs::{NESTING_LIMIT, expr};
 use crate::names::names;
 use crate::readings::Found;
-use crate::typed::{maybe_typed, result_name};
+use crate::typed::{maybe_typed_name, result_name};
 use crate::words::{keyword, newline, operator, soft};
 use px_base::Sequence;
 use px_exprs::readings::Unread;
-use px_exprs::words::{is_keyword, is_name, is_operator, is_word, name, place};
+use px_exprs::words::{is_word, name};
+use px_lexer::access::{is_keyword, is_name, is_operator, place};
 use px_lexer::{Keyword, Operator, Tokens};
 use px_tree::{
     Decorator, Decorators, ExceptionForm, Function, FunctionKind, FunctionName, Lock, Param,
     Params, ResultType, Stmt,
 };
-use sqlite_items::Items;
+use sqlite_items::{Boxed, Items};
 use std::alloc::Global;
 
 /// The word that a function begins with, whether it is inline, what it gives, and the index of its name.
 pub(crate) type Head = (FunctionKind, (bool, (ResultType, usize)));
 
 /// The parameters of a function, what it says of exceptions and the lock, and its body.
-pub(crate) type FunctionRest = (Params, ((ExceptionForm, Lock), Items<Stmt>));
+pub(crate) type FunctionRest = (Params, ((Boxed<ExceptionForm>, Lock), Items<Stmt>));
 
 /// `True` or `False`.
 ///
@@ -46,7 +46,7 @@ pub(crate) type FunctionRest = (Params, ((ExceptionForm, Lock), Items<Stmt>));
 fn truth(tokens: &Tokens, from: usize) -> Result<Found<bool>, Unread>
     requires input { IsListing tokens.now }
     requires inside { from < length tokens.now.list }
-    ensures { ReadsFlat Truth Anywhere (terminals_of tokens.now) from result }
+    ensures { ReadsTokens Truth Anywhere (terminals_of tokens.now) from result }
 {
     if is_keyword(tokens, from, Keyword::True) {
         Ok(Found {
@@ -116,20 +116,20 @@ fn decorators(alloc: Global, tokens: &Tokens, from: usize) -> Result<Found<Decor
 fn not_none(tokens: &Tokens, from: usize) -> Result<Found<bool>, Unread>
     requires input { IsListing tokens.now }
     requires inside { from < length tokens.now.list }
-    ensures { ReadsFlat NotNone EndsParameter (terminals_of tokens.now) from result }
+    ensures { ReadsTokens NotNone EndsParameter (terminals_of tokens.now) from result }
 {
     if !is_keyword(tokens, from, Keyword::Not) {
-        return closed(tokens, false, from);
+        return keep_before_end(tokens, false, from);
     }
     let word = keyword(tokens, from + 1, Keyword::None)?;
-    closed(tokens, true, word.to)
+    keep_before_end(tokens, true, word.to)
 }
 
 /// What was read of a parameter, where it ends.
 ///
 /// # Errors
 /// `Stuck` where it doesn't.
-fn closed(tokens: &Tokens, tree: bool, to: usize) -> Result<Found<bool>, Unread>
+fn keep_before_end(tokens: &Tokens, tree: bool, to: usize) -> Result<Found<bool>, Unread>
     ensures { MatchResult result
         (λ found. (found.tree ≡ tree) × (found.to ≡ to) × EndsParameter (terminals_of tokens.now) to)
         (λ unread. IsStuckAt to unread × (EndsParameter (terminals_of tokens.now) to → ⊥)) }
@@ -152,7 +152,7 @@ fn parameter(alloc: Global, tokens: &Tokens, from: usize) -> Result<Found<Param>
     requires inside { from < length tokens.now.list }
     ensures { ReadsFlat Parameter EndsParameter (terminals_of tokens.now) from result }
 {
-    let head = maybe_typed(alloc, tokens, from)?;
+    let head = maybe_typed_name(alloc, tokens, from)?;
     let behind = not_none(tokens, head.to)?;
     let number = head.tree.1;
     Ok(Found {
@@ -193,7 +193,11 @@ fn parameters(alloc: Global, tokens: &Tokens, from: usize) -> Result<Found<Param
 ///
 /// # Errors
 /// As `rest`.
-fn caught(alloc: Global, tokens: &Tokens, from: usize) -> Result<Found<ExceptionForm>, Unread>
+fn exception_form(
+    alloc: Global,
+    tokens: &Tokens,
+    from: usize,
+) -> Result<Found<ExceptionForm>, Unread>
     requires input { IsListing tokens.now }
     requires inside { from < length tokens.now.list }
     ensures { ReadsFlat Caught EndsException (terminals_of tokens.now) from result }
@@ -213,7 +217,7 @@ fn caught(alloc: Global, tokens: &Tokens, from: usize) -> Result<Found<Exception
 ///
 /// # Errors
 /// `Stuck` where neither that nor a `:` stands there.
-fn says(tokens: &Tokens, tree: ExceptionForm, to: usize) -> Result<Found<ExceptionForm>, Unread>
+fn says<T: Drop>(tokens: &Tokens, tree: T, to: usize) -> Result<Found<T>, Unread>
     requires { IsListing tokens.now }
     ensures { MatchResult result
         (λ found. (found.tree ≡ tree) × (found.to ≡ to) × EndsException (terminals_of tokens.now) to)
@@ -239,7 +243,7 @@ fn exception(alloc: Global, tokens: &Tokens, from: usize) -> Result<Found<Except
     ensures { ReadsFlat Exception EndsException (terminals_of tokens.now) from result }
 {
     if is_keyword(tokens, from, Keyword::Except) {
-        return caught(alloc, tokens, from + 1);
+        return exception_form(alloc, tokens, from + 1);
     }
     if is_word(tokens, from, b"noexcept") {
         return says(tokens, ExceptionForm::Noexcept, from + 1);
@@ -254,7 +258,7 @@ fn exception(alloc: Global, tokens: &Tokens, from: usize) -> Result<Found<Except
 fn lock_form(tokens: &Tokens, from: usize) -> Result<Found<Lock>, Unread>
     requires input { IsListing tokens.now }
     requires inside { from < length tokens.now.list }
-    ensures { ReadsFlat LockForm (IsBefore (kind.Operator sign.Colon)) (terminals_of tokens.now) from result }
+    ensures { ReadsTokens LockForm (IsBefore (kind.Operator sign.Colon)) (terminals_of tokens.now) from result }
 {
     let (tree, to) = if is_word(tokens, from, b"nogil") {
         (Lock::Nogil, from + 1)
@@ -280,24 +284,27 @@ fn tail(
     tokens: &Tokens,
     from: usize,
     which: FunctionKind,
-) -> Result<Found<(ExceptionForm, Lock)>, Unread>
+) -> Result<Found<(Boxed<ExceptionForm>, Lock)>, Unread>
     requires input { IsListing tokens.now }
     requires inside { from < length tokens.now.list }
     ensures { ReadsFlat (Tail which) (IsBefore (kind.Operator sign.Colon)) (terminals_of tokens.now) from result }
 {
     if which == FunctionKind::Def {
         if is_operator(tokens, from, Operator::Colon) {
+            let unwritten = Boxed::new(alloc, ExceptionForm::Unwritten)?;
             return Ok(Found {
-                tree: (ExceptionForm::Unwritten, Lock::Unwritten),
+                tree: (unwritten, Lock::Unwritten),
                 to: from,
             });
         }
         return Err(Unread::Stuck(from));
     }
     let exception = exception(alloc, tokens, from)?;
-    let lock = lock_form(tokens, exception.to)?;
+    let exception_to = exception.to;
+    let exception_tree = Boxed::new(alloc, exception.tree)?;
+    let lock = lock_form(tokens, exception_to)?;
     Ok(Found {
-        tree: (exception.tree, lock.tree),
+        tree: (exception_tree, lock.tree),
         to: lock.to,
     })
 }
@@ -401,7 +408,8 @@ pub(crate) fn function_with(
         × IsName (terminals_of tokens.now) head.1.1.1 spelled × (made ≡ function_of span decorators header_span (head.0, (head.1.0, (head.1.1.0, (head.1.1.1, spelled)))) rest))
         (λ unread. unread ≡ NoMemory) }
 {
-    let number = head.1.1.1;
+    let (kind, (is_inline, (gives, number))) = head;
+    let (params, ((exception, lock), body)) = rest;
     let Some(name) = FunctionName::new(name(alloc, tokens, number)?) else {
         unreachable!()
     };
@@ -410,14 +418,14 @@ pub(crate) fn function_with(
         at: place(tokens, at),
         header_at: place(tokens, header),
         decorators,
-        kind: head.0,
-        is_inline: head.1.0,
-        gives: head.1.1.0,
+        kind,
+        is_inline,
+        gives,
         name,
-        params: rest.0,
-        exception: rest.1.0.0,
-        lock: rest.1.0.1,
-        body: rest.1.1,
+        params,
+        exception: exception.into_inner(),
+        lock,
+        body,
     })
 }
 

@@ -3,11 +3,11 @@
 ghost use Rattle.std.specs.Prelude.{◌<◌, length};
 ghost use Rattle.px_lexer.specs.declared.spelling.Operator.TheVariants as sign;
 ghost use Rattle.px_lexer.specs.declared.token_list.TokenKind.TheVariants as kind;
-ghost use Rattle.px_exprs.specs.Inputs.{terminals_of};
+ghost use Rattle.px_lexer.specs.Terminals.{terminals_of};
 ghost use Rattle.px_parser.specs.Ends.{EndsAlias, IsBefore};
 ghost use Rattle.px_parser.specs.Listings.{IsListing};
 ghost use Rattle.px_parser.specs.ModuleGrammar.{Alias, ImportWord, Imported, WholeImport, PartImport, ImportLine};
-ghost use Rattle.px_parser.specs.Readings.{ReadsFlat, Anywhere};
+ghost use Rattle.px_parser.specs.Readings.{ReadsFlat, ReadsTokens, Anywhere};
 ghost use Rattle.px_parser.specs.Shapes.{Separated};
 
 use crate::names::names;
@@ -15,7 +15,7 @@ use crate::readings::Found;
 use crate::words::{identifier, is_newline, keyword, newline};
 use px_base::{Chars, Sequence};
 use px_exprs::readings::Unread;
-use px_exprs::words::{is_keyword, is_operator, place};
+use px_lexer::access::{is_keyword, is_operator, place};
 use px_lexer::{Keyword, Operator, Tokens};
 use px_tree::{Import, ImportForm, ImportedName, ImportedNames};
 use std::alloc::Global;
@@ -52,7 +52,7 @@ fn alias(alloc: Global, tokens: &Tokens, from: usize) -> Result<Found<Option<Cha
 fn import_word(tokens: &Tokens, from: usize) -> Result<Found<bool>, Unread>
     requires input { IsListing tokens.now }
     requires inside { from < length tokens.now.list }
-    ensures { ReadsFlat ImportWord Anywhere (terminals_of tokens.now) from result }
+    ensures { ReadsTokens ImportWord Anywhere (terminals_of tokens.now) from result }
 {
     if is_keyword(tokens, from, Keyword::Import) {
         Ok(Found {
@@ -73,7 +73,7 @@ fn import_word(tokens: &Tokens, from: usize) -> Result<Found<bool>, Unread>
 ///
 /// # Errors
 /// As `import_line`.
-fn imported(alloc: Global, tokens: &Tokens, from: usize) -> Result<Found<ImportedName>, Unread>
+fn imported_name(alloc: Global, tokens: &Tokens, from: usize) -> Result<Found<ImportedName>, Unread>
     requires input { IsListing tokens.now }
     requires inside { from < length tokens.now.list }
     ensures { ReadsFlat Imported EndsAlias (terminals_of tokens.now) from result }
@@ -82,6 +82,8 @@ fn imported(alloc: Global, tokens: &Tokens, from: usize) -> Result<Found<Importe
     let other = alias(alloc, tokens, name.to)?;
     Ok(Found {
         tree: ImportedName {
+            number: from as u32,
+            at: place(tokens, from),
             name: name.tree,
             alias: other.tree,
         },
@@ -103,11 +105,11 @@ fn imported_names(
     ensures { ReadsFlat (Separated (kind.Operator sign.Comma) Imported) (IsBefore kind.Newline) (terminals_of tokens.now) from result }
 {
     let mut tree = Sequence::new(alloc);
-    let first = imported(alloc, tokens, from)?;
+    let first = imported_name(alloc, tokens, from)?;
     tree.push(first.tree)?;
     let mut to = first.to;
     while is_operator(tokens, to, Operator::Comma) {
-        let next = imported(alloc, tokens, to + 1)?;
+        let next = imported_name(alloc, tokens, to + 1)?;
         tree.push(next.tree)?;
         to = next.to;
     }
@@ -171,7 +173,11 @@ fn part_import(
 ///
 /// # Errors
 /// `Stuck` at the first token with which none begins; `NoMemory` where there is no memory for it.
-pub fn import_line(alloc: Global, tokens: &Tokens, from: usize) -> Result<Found<Import>, Unread>
+pub(crate) fn import_line(
+    alloc: Global,
+    tokens: &Tokens,
+    from: usize,
+) -> Result<Found<Import>, Unread>
     requires input { IsListing tokens.now }
     requires inside { from < length tokens.now.list }
     ensures { ReadsFlat ImportLine Anywhere (terminals_of tokens.now) from result }

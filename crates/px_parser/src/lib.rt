@@ -4,21 +4,18 @@
 mod blocks;
 mod compound;
 mod exprs;
-pub mod foreign;
+mod foreign;
 mod functions;
-pub mod imports;
+mod imports;
 pub mod laws;
 mod modules;
 mod names;
 mod parser;
-pub mod readings;
-pub mod simple;
+mod readings;
+mod simple;
 mod targets;
 mod typed;
-pub mod variables;
+mod variables;
 mod words;
 
 pub use parser::parse;
-
-#[cfg(test)]
-mod tests;

@@ -1,12 +1,11 @@
 //! What stands in a module (Python Language Reference, 9.2 File input).
 
-ghost use Rattle.std.specs.Prelude.{◌≡◌, ◌<◌, ◌⊎◌, [], ◌∷◌, ◌++◌, map, length, IsTrue, IsFalse, MatchResult};
+ghost use Rattle.std.specs.Prelude.{◌≡◌, ◌<◌, ◌⊎◌, ◌↔◌, [], ◌∷◌, ◌++◌, map, length, IsTrue, MatchResult};
 ghost use Rattle.px_lexer.specs.declared.spelling.Keyword.TheVariants as word;
 ghost use Rattle.px_lexer.specs.declared.spelling.Operator.TheVariants as sign;
 ghost use Rattle.px_lexer.specs.declared.token_list.TokenKind.TheVariants as kind;
-ghost use Rattle.px_exprs.specs.Inputs.{terminals_of};
+ghost use Rattle.px_lexer.specs.Terminals.{terminals_of, IsKeyword, IsOperator};
 ghost use Rattle.px_exprs.specs.Runs.{nesting_limit};
-ghost use Rattle.px_exprs.specs.Terminals.{IsKeyword, IsOperator};
 ghost use Rattle.px_exprs.specs.declared.readings.Unread.TheVariants.{NoMemory};
 ghost use Rattle.px_tree.specs.declared.modules.ModuleItem.TheVariants as module_item;
 ghost use Rattle.px_parser.specs.Ends.{EndsArms, IsBefore};
@@ -24,7 +23,7 @@ use crate::variables::{decl_rest, declare, declare_node, variables};
 use crate::words::{is_end, is_newline};
 use px_base::Sequence;
 use px_exprs::readings::Unread;
-use px_exprs::words::{is_keyword, is_operator};
+use px_lexer::access::{is_keyword, is_operator};
 use px_lexer::{Keyword, Operator, Tokens};
 use px_tree::{Function, FunctionKind, ModuleItem, ModuleItems, ResultType, Stmt};
 use sqlite_items::{Boxed, Items};
@@ -116,10 +115,7 @@ fn c_item(alloc: Global, tokens: &Tokens, from: usize) -> Result<Found<ModuleIte
 
 /// Whether a decorator stands at an index, or a word with which nothing but a function begins.
 fn begins_function(tokens: &Tokens, at: usize) -> bool
-    ensures holds { IsTrue result → IsOperator (terminals_of tokens.now) at sign.At ⊎ (IsKeyword (terminals_of tokens.now) at word.Def ⊎ IsKeyword (terminals_of tokens.now) at word.Cpdef) }
-    ensures undecorated { IsFalse result → IsOperator (terminals_of tokens.now) at sign.At → ⊥ }
-    ensures plain { IsFalse result → IsKeyword (terminals_of tokens.now) at word.Def → ⊥ }
-    ensures shared { IsFalse result → IsKeyword (terminals_of tokens.now) at word.Cpdef → ⊥ }
+    ensures { IsTrue result ↔ (IsOperator (terminals_of tokens.now) at sign.At ⊎ (IsKeyword (terminals_of tokens.now) at word.Def ⊎ IsKeyword (terminals_of tokens.now) at word.Cpdef)) }
 {
     is_operator(tokens, at, Operator::At)
         || is_keyword(tokens, at, Keyword::Def)
@@ -128,10 +124,7 @@ fn begins_function(tokens: &Tokens, at: usize) -> bool
 
 /// Whether an import begins at an index.
 fn begins_import(tokens: &Tokens, at: usize) -> bool
-    ensures holds { IsTrue result → (IsKeyword (terminals_of tokens.now) at word.Import ⊎ IsKeyword (terminals_of tokens.now) at word.Cimport) ⊎ IsKeyword (terminals_of tokens.now) at word.From }
-    ensures whole { IsFalse result → IsKeyword (terminals_of tokens.now) at word.Import → ⊥ }
-    ensures declared { IsFalse result → IsKeyword (terminals_of tokens.now) at word.Cimport → ⊥ }
-    ensures parted { IsFalse result → IsKeyword (terminals_of tokens.now) at word.From → ⊥ }
+    ensures { IsTrue result ↔ ((IsKeyword (terminals_of tokens.now) at word.Import ⊎ IsKeyword (terminals_of tokens.now) at word.Cimport) ⊎ IsKeyword (terminals_of tokens.now) at word.From) }
 {
     is_keyword(tokens, at, Keyword::Import)
         || is_keyword(tokens, at, Keyword::Cimport)

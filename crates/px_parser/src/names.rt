@@ -1,7 +1,7 @@
 //! Lists of names.
 
 ghost use Rattle.std.specs.Prelude.{◌<◌, length};
-ghost use Rattle.px_exprs.specs.Inputs.{terminals_of};
+ghost use Rattle.px_lexer.specs.Terminals.{terminals_of};
 ghost use Rattle.px_parser.specs.Ends.{EndsNames};
 ghost use Rattle.px_parser.specs.Listings.{IsListing};
 ghost use Rattle.px_parser.specs.Parts.{NamesBy};
@@ -11,7 +11,7 @@ use crate::readings::Found;
 use crate::words::identifier;
 use px_base::Sequence;
 use px_exprs::readings::Unread;
-use px_exprs::words::is_operator;
+use px_lexer::access::is_operator;
 use px_lexer::{Operator, Tokens};
 use px_tree::Names;
 use std::alloc::Global;

@@ -3,7 +3,7 @@ ghost use Rattle.px_base.specs.declared.refusals.Trouble.TheVariants.{Refused};
 ghost use Rattle.px_base.specs.declared.refusals.Refusal.{Refusal};
 ghost use Rattle.px_base.specs.Troubles.{IfRefused};
 ghost use Rattle.px_lexer.specs.Tokens.{IsTokens};
-ghost use Rattle.px_exprs.specs.Inputs.{terminals_of};
+ghost use Rattle.px_lexer.specs.Terminals.{terminals_of};
 ghost use Rattle.px_exprs.specs.Runs.{IsRefusalAt};
 ghost use Rattle.px_parser.specs.Parsing.{IsModuleOf, IsModuleRefused, comment_of};
 
@@ -11,13 +11,13 @@ use crate::foreign::foreign;
 use crate::modules::items;
 use px_base::{Refusal, Sequence, Trouble};
 use px_exprs::readings::Unread;
-use px_exprs::words::place;
 use px_lexer::Tokens;
+use px_lexer::access::place;
 use px_tree::{Comment, Comments, Module};
 use std::alloc::{AllocError, Global};
 
 /// The refusal with this number at the token with this index.
-fn refused(tokens: &Tokens, number: u8, at: usize) -> Trouble
+fn trouble_at(tokens: &Tokens, number: u8, at: usize) -> Trouble
     requires { at < length tokens.now.list }
     ensures { (refusal : Refusal) × (result ≡ Refused refusal) × IsRefusalAt (terminals_of tokens.now) number at refusal }
 {
@@ -64,7 +64,7 @@ pub fn parse(alloc: Global, tokens: &Tokens) -> Result<Module, Trouble>
     ensures refused { IfRefused result (IsModuleRefused (terminals_of tokens.now)) }
 {
     if let Some(at) = foreign(tokens) {
-        return Err(refused(tokens, 27, at));
+        return Err(trouble_at(tokens, 27, at));
     }
     match items(alloc, tokens) {
         Ok(found) => Ok(Module {
@@ -73,8 +73,8 @@ pub fn parse(alloc: Global, tokens: &Tokens) -> Result<Module, Trouble>
             items: found.tree,
             comments: comments(alloc, tokens)?,
         }),
-        Err(Unread::Stuck(at)) => Err(refused(tokens, 5, at)),
-        Err(Unread::TooDeep(at)) => Err(refused(tokens, 6, at)),
+        Err(Unread::Stuck(at)) => Err(trouble_at(tokens, 5, at)),
+        Err(Unread::TooDeep(at)) => Err(trouble_at(tokens, 6, at)),
         Err(Unread::NoMemory) => Err(Trouble::NoMemory),
     }
 }

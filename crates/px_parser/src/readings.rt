@@ -1,6 +1,6 @@
 /// What was read: its tree, and the index of the token behind it.
-#[derive(Debug, Drop)]
-pub struct Found<T> {
-    pub tree: T,
-    pub to: usize,
+#[derive(Drop)]
+pub(crate) struct Found<T> {
+    pub(crate) tree: T,
+    pub(crate) to: usize,
 }

@@ -1,7 +1,7 @@
 //! Simple statements (Python Language Reference, 7 Simple statements).
 
 ghost use Rattle.std.specs.Prelude.{◌<◌, length};
-ghost use Rattle.px_exprs.specs.Inputs.{terminals_of};
+ghost use Rattle.px_lexer.specs.Terminals.{terminals_of};
 ghost use Rattle.px_parser.specs.Ends.{EndsSimple};
 ghost use Rattle.px_parser.specs.Listings.{IsListing};
 ghost use Rattle.px_parser.specs.Parts.{RaisedText};
@@ -11,11 +11,13 @@ ghost use Rattle.px_parser.specs.StatementGrammar.{Return, Raise, Global as Glob
 use crate::exprs::{NESTING_LIMIT, values};
 use crate::names::names;
 use crate::readings::Found;
-use crate::targets::assigned;
-use crate::words::{ended, ends_simple, identifier, is_newline, keyword, newline, operator};
+use crate::targets::assigned_form;
+use crate::words::{
+    ends_simple, identifier, is_newline, keep_before_simple_end, keyword, newline, operator,
+};
 use px_exprs::grammar;
 use px_exprs::readings::Unread;
-use px_exprs::words::{is_operator, keyword_at, place};
+use px_lexer::access::{is_operator, keyword_at, place};
 use px_lexer::{Keyword, Operator, Tokens};
 use px_tree::{Expr, Stmt, StmtForm, room_for_one};
 use sqlite_items::{Boxed, Items};
@@ -25,7 +27,7 @@ use std::alloc::Global;
 ///
 /// # Errors
 /// As `simple`.
-fn returned(alloc: Global, tokens: &Tokens, from: usize) -> Result<Found<StmtForm>, Unread>
+fn return_form(alloc: Global, tokens: &Tokens, from: usize) -> Result<Found<StmtForm>, Unread>
     requires input { IsListing tokens.now }
     requires inside { from < length tokens.now.list }
     ensures { ReadsFlat Return EndsSimple (terminals_of tokens.now) from result }
@@ -38,7 +40,7 @@ fn returned(alloc: Global, tokens: &Tokens, from: usize) -> Result<Found<StmtFor
         });
     }
     let value = values(alloc, tokens, word.to)?;
-    ended(tokens, StmtForm::Return(Some(value.tree)), value.to)
+    keep_before_simple_end(tokens, StmtForm::Return(Some(value.tree)), value.to)
 }
 
 /// The text of a `raise` in its brackets, which may be empty.
@@ -62,9 +64,11 @@ fn raised_text(
         });
     }
     let text = grammar::expr(alloc, tokens, NESTING_LIMIT - 1, opening.to)?;
-    let closing = operator(tokens, text.to, Operator::CloseParenthesis)?;
+    let text_to = text.to;
+    let text_tree = Boxed::new(alloc, text.tree)?;
+    let closing = operator(tokens, text_to, Operator::CloseParenthesis)?;
     Ok(Found {
-        tree: Some(Boxed::new(alloc, text.tree)?),
+        tree: Some(text_tree),
         to: closing.to,
     })
 }
@@ -73,7 +77,7 @@ fn raised_text(
 ///
 /// # Errors
 /// As `simple`.
-fn raised(alloc: Global, tokens: &Tokens, from: usize) -> Result<Found<StmtForm>, Unread>
+fn raise_form(alloc: Global, tokens: &Tokens, from: usize) -> Result<Found<StmtForm>, Unread>
     requires input { IsListing tokens.now }
     requires inside { from < length tokens.now.list }
     ensures { ReadsFlat Raise EndsSimple (terminals_of tokens.now) from result }
@@ -81,10 +85,10 @@ fn raised(alloc: Global, tokens: &Tokens, from: usize) -> Result<Found<StmtForm>
     let word = keyword(tokens, from, Keyword::Raise)?;
     let kind = identifier(alloc, tokens, word.to)?;
     if !is_operator(tokens, kind.to, Operator::OpenParenthesis) {
-        return ended(tokens, StmtForm::Raise(kind.tree, None), kind.to);
+        return keep_before_simple_end(tokens, StmtForm::Raise(kind.tree, None), kind.to);
     }
     let text = raised_text(alloc, tokens, kind.to)?;
-    ended(tokens, StmtForm::Raise(kind.tree, text.tree), text.to)
+    keep_before_simple_end(tokens, StmtForm::Raise(kind.tree, text.tree), text.to)
 }
 
 /// `global` with its names.
@@ -98,7 +102,7 @@ fn global(alloc: Global, tokens: &Tokens, from: usize) -> Result<Found<StmtForm>
 {
     let word = keyword(tokens, from, Keyword::Global)?;
     let found = names(alloc, tokens, word.to, Operator::Comma)?;
-    ended(tokens, StmtForm::Global(found.tree), found.to)
+    keep_before_simple_end(tokens, StmtForm::Global(found.tree), found.to)
 }
 
 /// What a simple statement says.
@@ -111,16 +115,16 @@ fn simple_form(alloc: Global, tokens: &Tokens, from: usize) -> Result<Found<Stmt
     ensures { ReadsFlat SimpleForm EndsSimple (terminals_of tokens.now) from result }
 {
     let Some(word) = keyword_at(tokens, from) else {
-        return assigned(alloc, tokens, from);
+        return assigned_form(alloc, tokens, from);
     };
     match word {
-        Keyword::Pass => ended(tokens, StmtForm::Pass, from + 1),
-        Keyword::Break => ended(tokens, StmtForm::Break, from + 1),
-        Keyword::Continue => ended(tokens, StmtForm::Continue, from + 1),
-        Keyword::Return => returned(alloc, tokens, from),
-        Keyword::Raise => raised(alloc, tokens, from),
+        Keyword::Pass => keep_before_simple_end(tokens, StmtForm::Pass, from + 1),
+        Keyword::Break => keep_before_simple_end(tokens, StmtForm::Break, from + 1),
+        Keyword::Continue => keep_before_simple_end(tokens, StmtForm::Continue, from + 1),
+        Keyword::Return => return_form(alloc, tokens, from),
+        Keyword::Raise => raise_form(alloc, tokens, from),
         Keyword::Global => global(alloc, tokens, from),
-        _ => assigned(alloc, tokens, from),
+        _ => assigned_form(alloc, tokens, from),
     }
 }
 
@@ -129,7 +133,7 @@ fn simple_form(alloc: Global, tokens: &Tokens, from: usize) -> Result<Found<Stmt
 /// # Errors
 /// `Stuck` at the first token with which none begins, or behind it where neither a `;` nor the end of the line stands there;
 /// `TooDeep` where an expression is nested too deep; `NoMemory` where there is no memory for the tree.
-pub fn simple(alloc: Global, tokens: &Tokens, from: usize) -> Result<Found<Stmt>, Unread>
+pub(crate) fn simple(alloc: Global, tokens: &Tokens, from: usize) -> Result<Found<Stmt>, Unread>
     requires input { IsListing tokens.now }
     requires inside { from < length tokens.now.list }
     ensures { ReadsFlat Simple EndsSimple (terminals_of tokens.now) from result }
@@ -149,7 +153,11 @@ pub fn simple(alloc: Global, tokens: &Tokens, from: usize) -> Result<Found<Stmt>
 ///
 /// # Errors
 /// As `simple`.
-pub fn line(alloc: Global, tokens: &Tokens, from: usize) -> Result<Found<Items<Stmt>>, Unread>
+pub(crate) fn line(
+    alloc: Global,
+    tokens: &Tokens,
+    from: usize,
+) -> Result<Found<Items<Stmt>>, Unread>
     requires input { IsListing tokens.now }
     requires inside { from < length tokens.now.list }
     ensures { ReadsFlat Line Anywhere (terminals_of tokens.now) from result }

@@ -1,27 +1,25 @@
 //! Targets of assignments. They are read as expressions, and told by their trees.
 
-ghost use Rattle.std.specs.Prelude.{◌≡◌, ℕ, suc, ◌<◌, ◌⊎◌, length, IsTrue, IsFalse, MatchOption};
+ghost use Rattle.std.specs.Prelude.{ℕ, ◌<◌, length, IsTrue, MatchOption, ◌↔◌};
 ghost use Rattle.px_base.specs.declared.c_types.BinOp.{BinOp};
 ghost use Rattle.px_lexer.specs.declared.spelling.Keyword.TheVariants as word;
-ghost use Rattle.px_lexer.specs.declared.spelling.Operator.TheVariants as sign;
-ghost use Rattle.px_exprs.specs.Terminals.{IsKeyword, IsOperator};
+ghost use Rattle.px_lexer.specs.Terminals.{IsKeyword, terminals_of};
 ghost use Rattle.px_exprs.specs.Grammar.{IsOf};
-ghost use Rattle.px_exprs.specs.Inputs.{terminals_of};
 ghost use Rattle.px_parser.specs.Listings.{IsListing};
 ghost use Rattle.px_parser.specs.Readings.{IsReading, ReadsFlat};
 ghost use Rattle.px_parser.specs.Shapes.{Nested};
 ghost use Rattle.px_parser.specs.StatementGrammar.{EndsWithSubscript, IsTarget, LoopTargets, augmented};
 ghost use Rattle.px_parser.specs.Parts.{ExprsRead, IsTargetTree, AreTargetTrees, Assigned};
-ghost use Rattle.px_parser.specs.Ends.{EndsExprs, EndsSimple};
+ghost use Rattle.px_parser.specs.Ends.{EndsExprs, EndsSimple, EndsLoopTarget};
 
 use crate::exprs::{NESTING_LIMIT, expr, exprs, list};
 use crate::readings::Found;
-use crate::words::ended;
+use crate::words::{keep_before_simple_end, keep_if};
 use px_base::BinOp;
 use px_exprs::grammar;
 use px_exprs::operators::meaning;
 use px_exprs::readings::Unread;
-use px_exprs::words::{is_keyword, is_operator};
+use px_lexer::access::{is_keyword, is_operator};
 use px_lexer::{Keyword, Operator, Tokens};
 use px_tree::{Expr, ExprForm, StmtForm, Trailer};
 use sqlite_items::{Boxed, Items};
@@ -29,8 +27,7 @@ use std::alloc::Global;
 
 /// Whether the last of these is a subscript.
 fn ends_with_subscript(trailers: &[Trailer]) -> bool
-    ensures holds { IsTrue result → EndsWithSubscript trailers.now }
-    ensures fails { IsFalse result → EndsWithSubscript trailers.now → ⊥ }
+    ensures { IsTrue result ↔ (EndsWithSubscript trailers.now) }
 {
     match trailers.last() {
         Some(Trailer::Subscript(_, _)) => true,
@@ -41,8 +38,7 @@ fn ends_with_subscript(trailers: &[Trailer]) -> bool
 /// Whether an expression is a target too.
 #[cycle(target)]
 pub(crate) fn is_target(expr: &Expr) -> bool
-    ensures holds { IsTrue result → IsTargetTree expr.now }
-    ensures fails { IsFalse result → IsTargetTree expr.now → ⊥ }
+    ensures { IsTrue result ↔ (IsTargetTree expr.now) }
 {
     match &expr.form {
         ExprForm::Name(_) => true,
@@ -55,8 +51,7 @@ pub(crate) fn is_target(expr: &Expr) -> bool
 /// Whether each of these is a target.
 #[cycle(target)]
 fn are_targets(exprs: &[Expr]) -> bool
-    ensures holds { IsTrue result → AreTargetTrees exprs.now }
-    ensures fails { IsFalse result → AreTargetTrees exprs.now → ⊥ }
+    ensures { IsTrue result ↔ (AreTargetTrees exprs.now) }
 {
     for expr in exprs {
         if !is_target(expr) {
@@ -105,12 +100,15 @@ fn augmentation(
     ensures { ReadsFlat Assigned EndsSimple (terminals_of tokens.now) from result }
 {
     let (target, is_alone) = read;
-    if !is_alone || !is_target(&target) {
+    let target_tree = Boxed::new(alloc, target)?;
+    if !is_alone || !is_target(target_tree.get()) {
         return Err(Unread::Stuck(to));
     }
     let value = expr(alloc, tokens, to + 1)?;
-    let form = StmtForm::Augment(target, op, Boxed::new(alloc, value.tree)?);
-    ended(tokens, form, value.to)
+    let value_to = value.to;
+    let value_tree = Boxed::new(alloc, value.tree)?;
+    let form = StmtForm::Augment(target_tree.into_inner(), op, value_tree);
+    keep_before_simple_end(tokens, form, value_to)
 }
 
 /// An assignment, or an augmented one, from an index on to where a simple statement ends.
@@ -118,7 +116,7 @@ fn augmentation(
 /// # Errors
 /// As `exprs`; `Stuck` at an operator where what stands before it is no target, and behind the value where no simple statement ends
 /// there.
-pub(crate) fn assigned(
+pub(crate) fn assigned_form(
     alloc: Global,
     tokens: &Tokens,
     from: usize,
@@ -163,13 +161,12 @@ fn assignment(
         let tree = next.tree;
         value = tree.0;
     }
-    ended(tokens, StmtForm::Assign(targets, value), to)
+    keep_before_simple_end(tokens, StmtForm::Assign(targets, value), to)
 }
 
 /// Whether a comma or `in` stands at an index.
 fn ends_loop_target(tokens: &Tokens, at: usize) -> bool
-    ensures holds { IsTrue result → IsOperator (terminals_of tokens.now) at sign.Comma ⊎ IsKeyword (terminals_of tokens.now) at word.In }
-    ensures fails { IsFalse result → IsOperator (terminals_of tokens.now) at sign.Comma ⊎ IsKeyword (terminals_of tokens.now) at word.In → ⊥ }
+    ensures { IsTrue result ↔ (EndsLoopTarget (terminals_of tokens.now) at) }
 {
     is_operator(tokens, at, Operator::Comma) || is_keyword(tokens, at, Keyword::In)
 }
@@ -181,17 +178,11 @@ fn ends_loop_target(tokens: &Tokens, at: usize) -> bool
 fn loop_target(alloc: Global, tokens: &Tokens, from: usize) -> Result<Found<Expr>, Unread>
     requires input { IsListing tokens.now }
     requires inside { from < length tokens.now.list }
-    ensures { ReadsFlat (Nested IsTarget) (λ ts i. IsOperator ts i sign.Comma ⊎ IsKeyword ts i word.In) (terminals_of tokens.now) from result }
+    ensures { ReadsFlat (Nested IsTarget) EndsLoopTarget (terminals_of tokens.now) from result }
 {
     let read = grammar::primary(alloc, tokens, NESTING_LIMIT, from)?;
-    if ends_loop_target(tokens, read.to) && is_target(&read.tree) {
-        Ok(Found {
-            tree: read.tree,
-            to: read.to,
-        })
-    } else {
-        Err(Unread::Stuck(read.to))
-    }
+    let is_whole = ends_loop_target(tokens, read.to) && is_target(&read.tree);
+    keep_if(read.tree, read.to, is_whole)
 }
 
 /// The targets of a `for` from an index on, to its `in`.
@@ -208,7 +199,27 @@ pub(crate) fn loop_targets(
     ensures { ReadsFlat LoopTargets (λ ts i. IsKeyword ts i word.In) (terminals_of tokens.now) from result }
 {
     let first = loop_target(alloc, tokens, from)?;
-    let comma = first.to;
+    let first_to = first.to;
+    let first_tree = Boxed::new(alloc, first.tree)?;
+    further_targets(alloc, tokens, from, first_tree, first_to)
+}
+
+/// The targets of a `for` that begin with the one that was read, and the others behind it.
+///
+/// # Errors
+/// As `loop_targets`.
+fn further_targets(
+    alloc: Global,
+    tokens: &Tokens,
+    from: usize,
+    first: Boxed<Expr>,
+    comma: usize,
+) -> Result<Found<Expr>, Unread>
+    requires input { IsListing tokens.now }
+    requires inside { from < length tokens.now.list }
+    requires read { (room : ℕ) → IsReading (Nested IsTarget) EndsLoopTarget (terminals_of tokens.now) from room first comma }
+    ensures { ReadsFlat LoopTargets (λ ts i. IsKeyword ts i word.In) (terminals_of tokens.now) from result }
+{
     let mut others = Items::new(alloc);
     let mut to = comma;
     while is_operator(tokens, to, Operator::Comma) {
@@ -218,10 +229,10 @@ pub(crate) fn loop_targets(
     }
     if others.is_empty() {
         return Ok(Found {
-            tree: first.tree,
+            tree: first.into_inner(),
             to,
         });
     }
-    let tree = list(alloc, tokens, from, first.tree, comma, others)?;
+    let tree = list(alloc, tokens, from, first, comma, others)?;
     Ok(Found { tree, to })
 }

@@ -1,40 +1,38 @@
 //! Names behind types.
 
-ghost use Rattle.std.specs.Prelude.{◌≡◌, ◌⊎◌, ℕ, suc, ◌<◌, List, length, codes, nat_lt, IsTrue, IsFalse, MatchOption, MatchResult};
-ghost use Rattle.px_lexer.specs.declared.spelling.Operator.TheVariants as sign;
+ghost use Rattle.std.specs.Prelude.{◌≡◌, ◌⊎◌, ◌↔◌, ℕ, suc, ◌<◌, List, length, nat_lt, IsTrue, MatchOption, MatchResult};
 ghost use Rattle.px_tree.specs.declared.typings.BaseType.{BaseType};
-ghost use Rattle.px_exprs.specs.Terminals.{IsName, IsOperator, IsAt};
+ghost use Rattle.px_lexer.specs.Terminals.{IsName, IsAt, terminals_of};
 ghost use Rattle.px_exprs.specs.Typings.{IsBase};
 ghost use Rattle.px_exprs.specs.TypeParts.{NoName};
-ghost use Rattle.px_exprs.specs.Inputs.{terminals_of};
 ghost use Rattle.px_exprs.specs.Words.{IsStuckAt};
 ghost use Rattle.px_parser.specs.Listings.{IsListing};
 ghost use Rattle.px_parser.specs.Readings.{ReadsFlat};
-ghost use Rattle.px_parser.specs.Parts.{TypedName, MaybeTypedName, ResultName};
+ghost use Rattle.px_parser.specs.Parts.{BeginsType, GoesOn, TypedName, MaybeTypedName, ResultName};
 ghost use Rattle.px_parser.specs.Ends.{EndsName};
 
 use crate::readings::Found;
 use px_base::Sequence;
 use px_exprs::readings::Unread;
 use px_exprs::typings::{axes, base_of, behind_const};
-use px_exprs::words::{is_name, is_operator, is_word, place};
+use px_exprs::words::is_word;
+use px_lexer::access::{is_name, is_operator, place};
 use px_lexer::{Operator, Tokens};
 use px_tree::{Axes, BaseType, ResultType, Type};
 use std::alloc::Global;
 
-/// Whether a name behind a type may end before the token at an index, which is no identifier and opens no axes then.
-fn ends_name(tokens: &Tokens, at: usize) -> bool
-    ensures holds { IsTrue result → EndsName (terminals_of tokens.now) at }
-    ensures fails { IsFalse result → ((name : List ℕ) × IsName (terminals_of tokens.now) at name) ⊎ IsOperator (terminals_of tokens.now) at sign.OpenBracket }
+/// Whether a name behind a type can't end before the token at an index: that is an identifier, or opens axes.
+fn goes_on(tokens: &Tokens, at: usize) -> bool
+    ensures { IsTrue result ↔ (GoesOn (terminals_of tokens.now) at) }
 {
-    !is_name(tokens, at) && !is_operator(tokens, at, Operator::OpenBracket)
+    is_name(tokens, at) || is_operator(tokens, at, Operator::OpenBracket)
 }
 
 /// The name at an index, behind what was read before it.
 ///
 /// # Errors
 /// `Stuck` there where no identifier stands there, and behind it where a name behind a type can't end there.
-fn named<T: Drop>(tokens: &Tokens, tree: T, at: usize) -> Result<Found<(T, usize)>, Unread>
+fn name_behind<T: Drop>(tokens: &Tokens, tree: T, at: usize) -> Result<Found<(T, usize)>, Unread>
     requires input { IsListing tokens.now }
     ensures { MatchResult result
         (λ found. (found.tree ≡ (tree, at)) × (found.to ≡ suc at) × ((name : List ℕ) × IsName (terminals_of tokens.now) at name) × EndsName (terminals_of tokens.now) (suc at))
@@ -45,13 +43,13 @@ fn named<T: Drop>(tokens: &Tokens, tree: T, at: usize) -> Result<Found<(T, usize
         return Err(Unread::Stuck(at));
     }
     let to = at + 1;
-    if ends_name(tokens, to) {
+    if goes_on(tokens, to) {
+        Err(Unread::Stuck(to))
+    } else {
         Ok(Found {
             tree: (tree, at),
             to,
         })
-    } else {
-        Err(Unread::Stuck(to))
     }
 }
 
@@ -95,7 +93,7 @@ fn typing(tokens: &Tokens, from: usize, base_from: usize, base: BaseType, axes: 
 ///
 /// # Errors
 /// `Stuck` at the first token with which none begins; `NoMemory` where there is no memory for the axes.
-pub(crate) fn typed(
+pub(crate) fn typed_name(
     alloc: Global,
     tokens: &Tokens,
     from: usize,
@@ -111,11 +109,11 @@ pub(crate) fn typed(
     if is_operator(tokens, to, Operator::OpenBracket) {
         let axes = axes(alloc, tokens, to + 1)?;
         let tree = typing(tokens, from, base_from, base, axes.tree);
-        return named(tokens, tree, axes.to + 1);
+        return name_behind(tokens, tree, axes.to + 1);
     }
     if is_name(tokens, to) {
         let tree = typing(tokens, from, base_from, base, Sequence::new(alloc));
-        return named(tokens, tree, to);
+        return name_behind(tokens, tree, to);
     }
     if to == base_from + 1 {
         return Err(Unread::Stuck(to));
@@ -136,20 +134,17 @@ pub(crate) fn typed(
 fn begins_typed(tokens: &Tokens, from: usize) -> bool
     requires input { IsListing tokens.now }
     requires inside { from < length tokens.now.list }
-    ensures holds { IsTrue result → (IsName (terminals_of tokens.now) from (codes "const") ⊎ ((b : BaseType) × IsBase (terminals_of tokens.now) from b (suc from)))
-        × (((name : List ℕ) × IsName (terminals_of tokens.now) (suc from) name) ⊎ IsOperator (terminals_of tokens.now) (suc from) sign.OpenBracket) }
-    ensures fails { IsFalse result → ((IsName (terminals_of tokens.now) from (codes "const") → ⊥) × ((b : BaseType) → IsBase (terminals_of tokens.now) from b (suc from) → ⊥))
-        ⊎ EndsName (terminals_of tokens.now) (suc from) }
+    ensures { IsTrue result ↔ (BeginsType (terminals_of tokens.now) from × GoesOn (terminals_of tokens.now) (suc from)) }
 {
     (is_word(tokens, from, b"const") || base_of(tokens, from, from + 1).is_some())
-        && !ends_name(tokens, from + 1)
+        && goes_on(tokens, from + 1)
 }
 
 /// The type from an index on, if there is one, with a name behind it, and the index of the name.
 ///
 /// # Errors
 /// As `typed`; `Stuck` where no identifier stands too, and behind it where the name can't end there.
-pub(crate) fn maybe_typed(
+pub(crate) fn maybe_typed_name(
     alloc: Global,
     tokens: &Tokens,
     from: usize,
@@ -159,9 +154,9 @@ pub(crate) fn maybe_typed(
     ensures { ReadsFlat MaybeTypedName EndsName (terminals_of tokens.now) from result }
 {
     if !begins_typed(tokens, from) {
-        return named(tokens, None, from);
+        return name_behind(tokens, None, from);
     }
-    let found = typed(alloc, tokens, from)?;
+    let found = typed_name(alloc, tokens, from)?;
     let (tree, at) = found.tree;
     Ok(Found {
         tree: (Some(tree), at),
@@ -183,12 +178,12 @@ pub(crate) fn result_name(
     ensures { ReadsFlat ResultName EndsName (terminals_of tokens.now) from result }
 {
     if is_word(tokens, from, b"void") && is_name(tokens, from + 1) {
-        return named(tokens, ResultType::Void, from + 1);
+        return name_behind(tokens, ResultType::Void, from + 1);
     }
     if !begins_typed(tokens, from) {
-        return named(tokens, ResultType::Unwritten, from);
+        return name_behind(tokens, ResultType::Unwritten, from);
     }
-    let found = typed(alloc, tokens, from)?;
+    let found = typed_name(alloc, tokens, from)?;
     let (tree, at) = found.tree;
     Ok(Found {
         tree: (ResultType::Of(tree), at),

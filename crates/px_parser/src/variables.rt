@@ -3,8 +3,7 @@
 ghost use Rattle.std.specs.Prelude.{◌≡◌, ◌<◌, ◌∷◌, List, ℕ, length, IfOk, MatchResult};
 ghost use Rattle.px_base.specs.declared.refusals.Span.{Span};
 ghost use Rattle.px_lexer.specs.declared.token_list.TokenKind.TheVariants as kind;
-ghost use Rattle.px_exprs.specs.Inputs.{terminals_of};
-ghost use Rattle.px_exprs.specs.Terminals.{IsAt, IsName};
+ghost use Rattle.px_lexer.specs.Terminals.{terminals_of, IsAt, IsName};
 ghost use Rattle.px_exprs.specs.Words.{IsStuckAt};
 ghost use Rattle.px_parser.specs.Ends.{EndsDecl, IsBefore};
 ghost use Rattle.px_parser.specs.Listings.{IsListing};
@@ -18,13 +17,14 @@ ghost use Rattle.px_lexer.specs.declared.spelling.Operator.TheVariants as sign;
 
 use crate::exprs::expr;
 use crate::readings::Found;
-use crate::typed::typed;
+use crate::typed::typed_name;
 use crate::words::{dedent, identifier, indent, is_dedent, is_newline, keyword, newline, operator};
 use px_exprs::readings::Unread;
-use px_exprs::words::{is_operator, name, place};
+use px_exprs::words::name;
+use px_lexer::access::{is_operator, place};
 use px_lexer::{Keyword, Operator, Tokens};
 use px_tree::{Declaration, Declarator, Expr, Stmt, StmtForm, Type, room_for_one};
-use sqlite_items::Items;
+use sqlite_items::{Boxed, Items};
 use std::alloc::Global;
 
 /// A type, the variables that are declared with it, and the index of the NEWLINE behind them.
@@ -34,23 +34,33 @@ pub(crate) type Variables = (Type, (Items<Declarator>, usize));
 ///
 /// # Errors
 /// `Stuck` or `TooDeep` at the first such token; `NoMemory` where there is no memory for the value.
-fn given(alloc: Global, tokens: &Tokens, from: usize) -> Result<Found<Option<Expr>>, Unread>
+fn initial_value(
+    alloc: Global,
+    tokens: &Tokens,
+    from: usize,
+) -> Result<Found<Option<Boxed<Expr>>>, Unread>
     requires input { IsListing tokens.now }
     requires inside { from < length tokens.now.list }
     ensures { ReadsFlat (Maybe (After (kind.Operator sign.Equal) IsWithinLimit)) EndsDecl (terminals_of tokens.now) from result }
 {
     if !is_operator(tokens, from, Operator::Equal) {
-        return closed(tokens, None, from);
+        return keep_before_end(tokens, None, from);
     }
     let value = expr(alloc, tokens, from + 1)?;
-    closed(tokens, Some(value.tree), value.to)
+    let value_to = value.to;
+    let value_tree = Boxed::new(alloc, value.tree)?;
+    keep_before_end(tokens, Some(value_tree), value_to)
 }
 
 /// A value that was read, where another variable or the end of the line stands behind it.
 ///
 /// # Errors
 /// `Stuck` where neither does.
-fn closed(tokens: &Tokens, tree: Option<Expr>, to: usize) -> Result<Found<Option<Expr>>, Unread>
+fn keep_before_end(
+    tokens: &Tokens,
+    tree: Option<Boxed<Expr>>,
+    to: usize,
+) -> Result<Found<Option<Boxed<Expr>>>, Unread>
     ensures { MatchResult result
         (λ found. (found.tree ≡ tree) × (found.to ≡ to) × EndsDecl (terminals_of tokens.now) to)
         (λ unread. IsStuckAt to unread × (EndsDecl (terminals_of tokens.now) to → ⊥)) }
@@ -59,6 +69,16 @@ fn closed(tokens: &Tokens, tree: Option<Expr>, to: usize) -> Result<Found<Option
         Ok(Found { tree, to })
     } else {
         Err(Unread::Stuck(to))
+    }
+}
+
+/// A value without the box in which it was held while what stands behind it was read.
+fn unbox(value: Option<Boxed<Expr>>) -> Option<Expr>
+    ensures { result ≡ value }
+{
+    match value {
+        Some(value) => Some(value.into_inner()),
+        None => None,
     }
 }
 
@@ -72,13 +92,13 @@ fn decl(alloc: Global, tokens: &Tokens, from: usize) -> Result<Found<Declarator>
     ensures { ReadsFlat Decl EndsDecl (terminals_of tokens.now) from result }
 {
     let name = identifier(alloc, tokens, from)?;
-    let value = given(alloc, tokens, name.to)?;
+    let value = initial_value(alloc, tokens, name.to)?;
     Ok(Found {
         tree: Declarator {
             number: from as u32,
             at: place(tokens, from),
             name: name.tree,
-            value: value.tree,
+            value: unbox(value.tree),
         },
         to: value.to,
     })
@@ -92,12 +112,12 @@ pub(crate) fn decl_rest(
     alloc: Global,
     tokens: &Tokens,
     from: usize,
-) -> Result<Found<(Option<Expr>, (Items<Declarator>, usize))>, Unread>
+) -> Result<Found<(Option<Boxed<Expr>>, (Items<Declarator>, usize))>, Unread>
     requires input { IsListing tokens.now }
     requires inside { from < length tokens.now.list }
     ensures { ReadsFlat DeclRest Anywhere (terminals_of tokens.now) from result }
 {
-    let value = given(alloc, tokens, from)?;
+    let value = initial_value(alloc, tokens, from)?;
     let mut others = Items::new(alloc);
     let mut to = value.to;
     while is_operator(tokens, to, Operator::Comma) {
@@ -120,7 +140,7 @@ pub(crate) fn variables(
     alloc: Global,
     tokens: &Tokens,
     number: usize,
-    value: Option<Expr>,
+    value: Option<Boxed<Expr>>,
     others: Items<Declarator>,
 ) -> Result<Items<Declarator>, Unread>
     requires input { IsListing tokens.now }
@@ -135,7 +155,7 @@ pub(crate) fn variables(
         number: number as u32,
         at: place(tokens, number),
         name: name(alloc, tokens, number)?,
-        value,
+        value: unbox(value),
     })?;
     all.append(others)?;
     Ok(all)
@@ -146,7 +166,11 @@ pub(crate) fn variables(
 /// # Errors
 /// `Stuck` at the first token with which none begins; `TooDeep` where an expression is nested too deep; `NoMemory` where there is
 /// no memory for the tree.
-fn declared(alloc: Global, tokens: &Tokens, from: usize) -> Result<Found<Variables>, Unread>
+fn declared_variables(
+    alloc: Global,
+    tokens: &Tokens,
+    from: usize,
+) -> Result<Found<Variables>, Unread>
     requires input { IsListing tokens.now }
     requires inside { from < length tokens.now.list }
     ensures { ReadsFlat Declared Anywhere (terminals_of tokens.now) from result }
@@ -154,7 +178,7 @@ fn declared(alloc: Global, tokens: &Tokens, from: usize) -> Result<Found<Variabl
     let Found {
         tree: (typing, number),
         to: behind,
-    } = typed(alloc, tokens, from)?;
+    } = typed_name(alloc, tokens, from)?;
     let Found {
         tree: (value, (others, end)),
         to,
@@ -178,11 +202,12 @@ pub(crate) fn declaration(
     requires small { number < 4294967296 }
     ensures { (span : Span) × IsAt (terminals_of tokens.now) at span × (result ≡ declaration_of number span found) }
 {
+    let (typing, (names, _)) = found;
     Declaration {
         number: number as u32,
         at: place(tokens, at),
-        typing: found.0,
-        names: found.1.0,
+        typing,
+        names,
     }
 }
 
@@ -210,7 +235,7 @@ fn declare_line(alloc: Global, tokens: &Tokens, from: usize) -> Result<Found<Stm
     ensures { ReadsFlat DeclareLine Anywhere (terminals_of tokens.now) from result }
 {
     let word = keyword(tokens, from, Keyword::Cdef)?;
-    let found = declared(alloc, tokens, word.to)?;
+    let found = declared_variables(alloc, tokens, word.to)?;
     Ok(Found {
         tree: declare_node(tokens, from, found.tree),
         to: found.to,
@@ -231,11 +256,11 @@ fn group_lines(
     ensures { ReadsFlat (Several GroupLine) (IsBefore kind.Dedent) (terminals_of tokens.now) from result }
 {
     let mut tree = Items::new(alloc);
-    let first = declared(alloc, tokens, from)?;
+    let first = declared_variables(alloc, tokens, from)?;
     tree.push(declaration(tokens, first.tree.1.1, from, first.tree))?;
     let mut to = first.to;
     while !is_dedent(tokens, to) {
-        let next = declared(alloc, tokens, to)?;
+        let next = declared_variables(alloc, tokens, to)?;
         tree.push(declaration(tokens, next.tree.1.1, to, next.tree))?;
         to = next.to;
     }
@@ -271,7 +296,7 @@ fn declare_group(alloc: Global, tokens: &Tokens, from: usize) -> Result<Found<St
 ///
 /// # Errors
 /// As `declared`.
-pub fn declare(alloc: Global, tokens: &Tokens, from: usize) -> Result<Found<Stmt>, Unread>
+pub(crate) fn declare(alloc: Global, tokens: &Tokens, from: usize) -> Result<Found<Stmt>, Unread>
     requires input { IsListing tokens.now }
     requires inside { from < length tokens.now.list }
     ensures { ReadsFlat Declare Anywhere (terminals_of tokens.now) from result }

@@ -1,29 +1,28 @@
 //! Single tokens.
 
-ghost use Rattle.std.specs.Prelude.{◌≡◌, ◌+◌, ◌<◌, length, nat_lt, not, IsTrue, IsFalse, MatchResult};
+ghost use Rattle.std.specs.Prelude.{◌≡◌, ◌+◌, ◌<◌, length, IsTrue, IsFalse, MatchResult, ◌↔◌};
 ghost use Rattle.px_lexer.specs.declared.spelling.Keyword.{Keyword};
 ghost use Rattle.px_lexer.specs.declared.spelling.Operator.{Operator};
 ghost use Rattle.px_lexer.specs.declared.token_list.TokenKind.TheVariants as kind;
-ghost use Rattle.px_exprs.specs.Terminals.{HasKind, IsOperator};
-ghost use Rattle.px_exprs.specs.Inputs.{terminals_of};
-ghost use Rattle.px_exprs.specs.Codes.{code_at, word_code, sign_code};
+ghost use Rattle.px_lexer.specs.Terminals.{HasKind, IsOperator, terminals_of};
+ghost use Rattle.px_exprs.specs.Codes.{code_at, word_code, sign_code, ends_exprs_code};
 ghost use Rattle.px_exprs.specs.Words.{are_ascii, IsStuckAt};
 ghost use Rattle.px_parser.specs.Listings.{IsListing};
-ghost use Rattle.px_parser.specs.Readings.{ReadsFlat, Anywhere};
+ghost use Rattle.px_parser.specs.Readings.{ReadsFlat, ReadsTokens, Anywhere};
 ghost use Rattle.px_parser.specs.Shapes.{Token, Word, Sign, Name, Soft};
 ghost use Rattle.px_parser.specs.Ends.{EndsSimple};
 
 use crate::readings::Found;
 use px_base::Chars;
 use px_exprs::readings::Unread;
-use px_exprs::words::{is_keyword, is_operator, is_word, kind_at, name};
+use px_exprs::words::{is_word, name};
+use px_lexer::access::{is_keyword, is_operator, kind_at};
 use px_lexer::{Keyword, Operator, TokenKind, Tokens};
 use std::alloc::Global;
 
 /// Whether the end of a logical line stands at an index.
 pub(crate) fn is_newline(tokens: &Tokens, at: usize) -> bool
-    ensures holds { IsTrue result → HasKind (terminals_of tokens.now) at kind.Newline }
-    ensures fails { IsFalse result → HasKind (terminals_of tokens.now) at kind.Newline → ⊥ }
+    ensures { IsTrue result ↔ (HasKind (terminals_of tokens.now) at kind.Newline) }
 {
     match kind_at(tokens, at) {
         Some(TokenKind::Newline) => true,
@@ -33,8 +32,7 @@ pub(crate) fn is_newline(tokens: &Tokens, at: usize) -> bool
 
 /// Whether a deeper line begins at an index.
 pub(crate) fn is_indent(tokens: &Tokens, at: usize) -> bool
-    ensures holds { IsTrue result → HasKind (terminals_of tokens.now) at kind.Indent }
-    ensures fails { IsFalse result → HasKind (terminals_of tokens.now) at kind.Indent → ⊥ }
+    ensures { IsTrue result ↔ (HasKind (terminals_of tokens.now) at kind.Indent) }
 {
     match kind_at(tokens, at) {
         Some(TokenKind::Indent) => true,
@@ -44,8 +42,7 @@ pub(crate) fn is_indent(tokens: &Tokens, at: usize) -> bool
 
 /// Whether a level of indentation is left at an index.
 pub(crate) fn is_dedent(tokens: &Tokens, at: usize) -> bool
-    ensures holds { IsTrue result → HasKind (terminals_of tokens.now) at kind.Dedent }
-    ensures fails { IsFalse result → HasKind (terminals_of tokens.now) at kind.Dedent → ⊥ }
+    ensures { IsTrue result ↔ (HasKind (terminals_of tokens.now) at kind.Dedent) }
 {
     match kind_at(tokens, at) {
         Some(TokenKind::Dedent) => true,
@@ -55,8 +52,7 @@ pub(crate) fn is_dedent(tokens: &Tokens, at: usize) -> bool
 
 /// Whether the text ends at an index.
 pub(crate) fn is_end(tokens: &Tokens, at: usize) -> bool
-    ensures holds { IsTrue result → HasKind (terminals_of tokens.now) at kind.End }
-    ensures fails { IsFalse result → HasKind (terminals_of tokens.now) at kind.End → ⊥ }
+    ensures { IsTrue result ↔ (HasKind (terminals_of tokens.now) at kind.End) }
 {
     match kind_at(tokens, at) {
         Some(TokenKind::End) => true,
@@ -89,7 +85,7 @@ fn token(at: usize, stands: bool) -> Result<Found<()>, Unread>
 pub(crate) fn operator(tokens: &Tokens, at: usize, sign: Operator) -> Result<Found<()>, Unread>
     requires input { IsListing tokens.now }
     requires inside { at < length tokens.now.list }
-    ensures { ReadsFlat (Sign sign) Anywhere (terminals_of tokens.now) at result }
+    ensures { ReadsTokens (Sign sign) Anywhere (terminals_of tokens.now) at result }
 {
     token(at, is_operator(tokens, at, sign))
 }
@@ -101,7 +97,7 @@ pub(crate) fn operator(tokens: &Tokens, at: usize, sign: Operator) -> Result<Fou
 pub(crate) fn keyword(tokens: &Tokens, at: usize, word: Keyword) -> Result<Found<()>, Unread>
     requires input { IsListing tokens.now }
     requires inside { at < length tokens.now.list }
-    ensures { ReadsFlat (Word word) Anywhere (terminals_of tokens.now) at result }
+    ensures { ReadsTokens (Word word) Anywhere (terminals_of tokens.now) at result }
 {
     token(at, is_keyword(tokens, at, word))
 }
@@ -114,7 +110,7 @@ pub(crate) fn soft(tokens: &Tokens, at: usize, word: &[u8]) -> Result<Found<()>,
     requires input { IsListing tokens.now }
     requires inside { at < length tokens.now.list }
     requires ascii { IsTrue (are_ascii word.now) }
-    ensures { ReadsFlat (Soft word.now) Anywhere (terminals_of tokens.now) at result }
+    ensures { ReadsTokens (Soft word.now) Anywhere (terminals_of tokens.now) at result }
 {
     token(at, is_word(tokens, at, word))
 }
@@ -126,7 +122,7 @@ pub(crate) fn soft(tokens: &Tokens, at: usize, word: &[u8]) -> Result<Found<()>,
 pub(crate) fn newline(tokens: &Tokens, at: usize) -> Result<Found<()>, Unread>
     requires input { IsListing tokens.now }
     requires inside { at < length tokens.now.list }
-    ensures { ReadsFlat (Token kind.Newline) Anywhere (terminals_of tokens.now) at result }
+    ensures { ReadsTokens (Token kind.Newline) Anywhere (terminals_of tokens.now) at result }
 {
     token(at, is_newline(tokens, at))
 }
@@ -138,7 +134,7 @@ pub(crate) fn newline(tokens: &Tokens, at: usize) -> Result<Found<()>, Unread>
 pub(crate) fn indent(tokens: &Tokens, at: usize) -> Result<Found<()>, Unread>
     requires input { IsListing tokens.now }
     requires inside { at < length tokens.now.list }
-    ensures { ReadsFlat (Token kind.Indent) Anywhere (terminals_of tokens.now) at result }
+    ensures { ReadsTokens (Token kind.Indent) Anywhere (terminals_of tokens.now) at result }
 {
     token(at, is_indent(tokens, at))
 }
@@ -150,7 +146,7 @@ pub(crate) fn indent(tokens: &Tokens, at: usize) -> Result<Found<()>, Unread>
 pub(crate) fn dedent(tokens: &Tokens, at: usize) -> Result<Found<()>, Unread>
     requires input { IsListing tokens.now }
     requires inside { at < length tokens.now.list }
-    ensures { ReadsFlat (Token kind.Dedent) Anywhere (terminals_of tokens.now) at result }
+    ensures { ReadsTokens (Token kind.Dedent) Anywhere (terminals_of tokens.now) at result }
 {
     token(at, is_dedent(tokens, at))
 }
@@ -171,7 +167,7 @@ pub(crate) fn identifier(alloc: Global, tokens: &Tokens, at: usize) -> Result<Fo
 /// Whether a list of expressions may end before the token at an index: it neither begins an expression nor goes on with one, and is
 /// no comma.
 pub(crate) fn ends_exprs(tokens: &Tokens, at: usize) -> bool
-    ensures { result ≡ not (nat_lt (code_at (terminals_of tokens.now) at) 28) }
+    ensures { result ≡ ends_exprs_code (code_at (terminals_of tokens.now) at) }
 {
     let Some(found) = kind_at(tokens, at) else {
         return true;
@@ -188,7 +184,7 @@ pub(crate) fn ends_exprs(tokens: &Tokens, at: usize) -> bool
 
 /// Whether a list of expressions may end before this keyword.
 fn ends_before_keyword(word: Keyword) -> bool
-    ensures { result ≡ not (nat_lt (word_code word) 28) }
+    ensures { result ≡ ends_exprs_code (word_code word) }
 {
     match word {
         Keyword::True => false,
@@ -208,7 +204,7 @@ fn ends_before_keyword(word: Keyword) -> bool
 
 /// Whether a list of expressions may end before this operator.
 fn ends_before_operator(sign: Operator) -> bool
-    ensures { result ≡ not (nat_lt (sign_code sign) 28) }
+    ensures { result ≡ ends_exprs_code (sign_code sign) }
 {
     match sign {
         Operator::Point => false,
@@ -239,17 +235,36 @@ fn ends_before_operator(sign: Operator) -> bool
 
 /// Whether a simple statement ends before the token at an index.
 pub(crate) fn ends_simple(tokens: &Tokens, at: usize) -> bool
-    ensures holds { IsTrue result → EndsSimple (terminals_of tokens.now) at }
-    ensures fails { IsFalse result → EndsSimple (terminals_of tokens.now) at → ⊥ }
+    ensures { IsTrue result ↔ (EndsSimple (terminals_of tokens.now) at) }
 {
     is_operator(tokens, at, Operator::Semicolon) || is_newline(tokens, at)
+}
+
+/// What was read, where it may end.
+///
+/// # Errors
+/// `Stuck` behind it where it may not.
+pub(crate) fn keep_if<T: Drop>(tree: T, to: usize, may_end: bool) -> Result<Found<T>, Unread>
+    ensures { MatchResult result
+        (λ found. IsTrue may_end × (found.tree ≡ tree) × (found.to ≡ to))
+        (λ unread. IsFalse may_end × IsStuckAt to unread) }
+{
+    if may_end {
+        Ok(Found { tree, to })
+    } else {
+        Err(Unread::Stuck(to))
+    }
 }
 
 /// A tree that was read, where a simple statement ends behind it.
 ///
 /// # Errors
 /// `Stuck` where none ends there.
-pub(crate) fn ended<T: Drop>(tokens: &Tokens, tree: T, to: usize) -> Result<Found<T>, Unread>
+pub(crate) fn keep_before_simple_end<T: Drop>(
+    tokens: &Tokens,
+    tree: T,
+    to: usize,
+) -> Result<Found<T>, Unread>
     ensures { MatchResult result
         (λ found. (found.tree ≡ tree) × (found.to ≡ to) × EndsSimple (terminals_of tokens.now) to)
         (λ unread. IsStuckAt to unread × (EndsSimple (terminals_of tokens.now) to → ⊥)) }

@@ -1,7 +1,7 @@
 use px_base::{BinOp, Sequence};
 
 /// What a variable of the body of a parallel loop is (Cython user guide, Using Parallelism).
-#[derive(Clone, Copy, Debug, PartialEq, Eq)]
+#[derive(Clone, Copy, PartialEq, Eq)]
 pub enum Class {
     /// The loop's index.
     Index,
@@ -15,7 +15,7 @@ pub enum Class {
 }
 
 /// The class of a variable, which is named by the number of its declaration.
-#[derive(Clone, Copy, Debug, PartialEq, Eq)]
+#[derive(Clone, Copy, PartialEq, Eq)]
 pub struct ClassOf {
     pub variable: u32,
     pub class: Class,

@@ -6,7 +6,7 @@ use sqlite_items::{Boxed, Items};
 pub type Texts = Sequence<Chars>;
 
 /// A comparison (Python Language Reference, 6.10 Comparisons).
-#[derive(Clone, Copy, Debug, PartialEq, Eq)]
+#[derive(Clone, Copy, PartialEq, Eq)]
 pub enum CompareOp {
     /// `<`
     Less,
@@ -30,7 +30,7 @@ pub enum CompareOp {
 
 /// An expression, and what stands where the grammar has targets or a list of expressions (Python Language Reference, 6).
 #[cycle(expression)]
-#[derive(Debug, Drop)]
+#[derive(Drop)]
 pub struct Expr {
     pub number: u32,
     pub at: Span,
@@ -38,7 +38,7 @@ pub struct Expr {
 }
 
 #[cycle(expression)]
-#[derive(Debug, Drop)]
+#[derive(Drop)]
 pub enum ExprForm {
     Name(Chars),
     /// A whole number from 0 to 2^127 - 1.
@@ -76,7 +76,7 @@ pub enum ExprForm {
 
 /// `key: value` in a dict.
 #[cycle(expression)]
-#[derive(Debug, Drop)]
+#[derive(Drop)]
 pub struct Entry {
     pub key: Expr,
     pub value: Expr,
@@ -84,7 +84,7 @@ pub struct Entry {
 
 /// What stands behind an atom.
 #[cycle(expression)]
-#[derive(Debug, Drop)]
+#[derive(Drop)]
 pub enum Trailer {
     /// `.name`
     Attribute(Chars),
@@ -96,7 +96,7 @@ pub enum Trailer {
 
 /// An argument of a call, with its name where it is a keyword argument.
 #[cycle(expression)]
-#[derive(Debug, Drop)]
+#[derive(Drop)]
 pub struct Argument {
     pub name: Option<Chars>,
     pub value: Expr,
@@ -104,7 +104,7 @@ pub struct Argument {
 
 /// An item of a subscript.
 #[cycle(expression)]
-#[derive(Debug, Drop)]
+#[derive(Drop)]
 pub enum Item {
     Index(Expr),
     /// `from:to:step`, each where it is written; `from:to:` and `from:to` are one.
@@ -115,7 +115,7 @@ pub enum Item {
 
 /// A binary operator and its right operand.
 #[cycle(expression)]
-#[derive(Debug, Drop)]
+#[derive(Drop)]
 pub struct Link {
     pub op: BinOp,
     pub operand: Expr,
@@ -123,7 +123,7 @@ pub struct Link {
 
 /// A comparison and its right operand.
 #[cycle(expression)]
-#[derive(Debug, Drop)]
+#[derive(Drop)]
 pub struct Comparison {
     pub op: CompareOp,
     pub operand: Expr,

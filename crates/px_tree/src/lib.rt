@@ -3,10 +3,10 @@
 //! A chain of operators of one level is one node with a list of operands, and a row of attributes, calls and subscripts behind
 //! one atom is one node. Each node has a place, that of its first token, and a number, which no other node of its module has: the
 //! index of a token that is its own. That token is the first operator of a chain or a conditional, the bracket or the first comma
-//! of a list of expressions, the first token behind the atom of a row, the name of a parameter, of a declared variable and of a
-//! function, the `:` of the header of a compound statement (of its first arm) or of a `cdef:` group, the NEWLINE or `;` that ends
-//! any other statement and a line of a group, END for a module, and otherwise the first token. Entries, arguments, items,
-//! trailers, links, comparisons and imported names are parts of their nodes.
+//! of a list of expressions, the first token behind the atom of a row, the name of a parameter, of a declared variable, of a
+//! function and of what `from` imports, the `:` of the header of a compound statement (of its first arm) or of a `cdef:` group,
+//! the NEWLINE or `;` that ends any other statement and a line of a group, END for a module, and otherwise the first token.
+//! Entries, arguments, items, trailers, links and comparisons are parts of their nodes.
 #![tactic(auto)]
 
 mod classes;
@@ -32,6 +32,3 @@ pub use names::{FunctionName, Names};
 pub use statements::{Arm, Declaration, Declarator, Stmt, StmtForm};
 pub use typed::{Constants, Typed};
 pub use typings::{Axes, Axis, BaseType, Type};
-
-#[cfg(test)]
-mod tests;

@@ -6,7 +6,7 @@ use px_base::{Bytes, Chars, Sequence, Span};
 use sqlite_items::{Boxed, Items};
 
 /// A comment line before the first token, from its `#` to before its line end.
-#[derive(Debug, Drop)]
+#[derive(Drop)]
 pub struct Comment {
     pub at: Span,
     pub text: Bytes,
@@ -15,9 +15,11 @@ pub struct Comment {
 /// The leading comment lines of a module, in its order.
 pub type Comments = Sequence<Comment>;
 
-/// A name that is imported, and the name that it has here where `as` gives one.
-#[derive(Debug, Drop)]
+/// A name that `from` imports, at its own token, and the name that it has here where `as` gives one.
+#[derive(Drop)]
 pub struct ImportedName {
+    pub number: u32,
+    pub at: Span,
     pub name: Chars,
     pub alias: Option<Chars>,
 }
@@ -26,7 +28,7 @@ pub struct ImportedName {
 pub type ImportedNames = Sequence<ImportedName>;
 
 /// What an import brings in; a dotted name by its parts.
-#[derive(Debug, Drop)]
+#[derive(Drop)]
 pub enum ImportForm {
     /// `import a.b`, or `import a.b as c`.
     Whole(Names, Option<Chars>),
@@ -35,7 +37,7 @@ pub enum ImportForm {
 }
 
 /// An import (Python Language Reference, 7.11; Cython user guide, Sharing Declarations Between Cython Modules).
-#[derive(Debug, Drop)]
+#[derive(Drop)]
 pub struct Import {
     pub number: u32,
     pub at: Span,
@@ -45,7 +47,7 @@ pub struct Import {
 }
 
 /// A decorator `@name.name(value)`, and the place of its first name.
-#[derive(Debug, Drop)]
+#[derive(Drop)]
 pub struct Decorator {
     pub number: u32,
     pub at: Span,
@@ -58,7 +60,7 @@ pub struct Decorator {
 pub type Decorators = Sequence<Decorator>;
 
 /// The word that a function begins with.
-#[derive(Clone, Copy, Debug, PartialEq, Eq)]
+#[derive(Clone, Copy, PartialEq, Eq)]
 pub enum FunctionKind {
     Def,
     Cdef,
@@ -66,7 +68,7 @@ pub enum FunctionKind {
 }
 
 /// What a function gives, as it is written.
-#[derive(Debug, Drop)]
+#[derive(Drop)]
 pub enum ResultType {
     /// No type is written.
     Unwritten,
@@ -75,7 +77,7 @@ pub enum ResultType {
 }
 
 /// What a function says of exceptions (Cython user guide, Error return values).
-#[derive(Debug, Drop)]
+#[derive(Drop)]
 pub enum ExceptionForm {
     /// Nothing is written.
     Unwritten,
@@ -89,7 +91,7 @@ pub enum ExceptionForm {
 }
 
 /// What a function says of the interpreter lock (Cython user guide, Cython and the GIL).
-#[derive(Clone, Copy, Debug, PartialEq, Eq)]
+#[derive(Clone, Copy, PartialEq, Eq)]
 pub enum Lock {
     /// Nothing is written.
     Unwritten,
@@ -98,7 +100,7 @@ pub enum Lock {
 }
 
 /// A parameter.
-#[derive(Debug, Drop)]
+#[derive(Drop)]
 pub struct Param {
     pub number: u32,
     pub at: Span,
@@ -112,7 +114,7 @@ pub struct Param {
 pub type Params = Sequence<Param>;
 
 /// A function, at its first decorator where it has one, and the place of its `def`, `cdef` or `cpdef`.
-#[derive(Debug, Drop)]
+#[derive(Drop)]
 pub struct Function {
     pub number: u32,
     pub at: Span,
@@ -132,7 +134,7 @@ pub struct Function {
 pub type Functions = Sequence<Function>;
 
 /// What stands in a module.
-#[derive(Debug, Drop)]
+#[derive(Drop)]
 pub enum ModuleItem {
     Import(Import),
     Function(Boxed<Function>),
@@ -143,7 +145,7 @@ pub enum ModuleItem {
 pub type ModuleItems = Sequence<ModuleItem>;
 
 /// A module, at its first token, and its leading comment lines.
-#[derive(Debug, Drop)]
+#[derive(Drop)]
 pub struct Module {
     pub number: u32,
     pub at: Span,

@@ -8,7 +8,7 @@ use std::marker::Model;
 pub type Names = Sequence<Chars>;
 
 /// The name of a function: it is nonempty, and has neither a space nor LF.
-#[derive(Debug, Drop)]
+#[derive(Drop)]
 pub struct FunctionName {
     chars: Chars,
 }

@@ -6,7 +6,7 @@ use sqlite_items::{Boxed, Items};
 
 /// A statement (Python Language Reference, 7 and 8; Cython user guide, Language Basics).
 #[cycle(statement)]
-#[derive(Debug, Drop)]
+#[derive(Drop)]
 pub struct Stmt {
     pub number: u32,
     pub at: Span,
@@ -14,7 +14,7 @@ pub struct Stmt {
 }
 
 #[cycle(statement)]
-#[derive(Debug, Drop)]
+#[derive(Drop)]
 pub enum StmtForm {
     /// `targets = .. = value`, each list of targets in the order of the text; without targets an expression alone.
     Assign(Items<Expr>, Expr),
@@ -42,7 +42,7 @@ pub enum StmtForm {
 
 /// A test and the block that it guards, at its `if` or `elif`.
 #[cycle(statement)]
-#[derive(Debug, Drop)]
+#[derive(Drop)]
 pub struct Arm {
     pub number: u32,
     pub at: Span,
@@ -51,7 +51,7 @@ pub struct Arm {
 }
 
 /// Variables that are declared with one type: at the `cdef` of their line, and in a group at the first token of their line.
-#[derive(Debug, Drop)]
+#[derive(Drop)]
 pub struct Declaration {
     pub number: u32,
     pub at: Span,
@@ -60,7 +60,7 @@ pub struct Declaration {
 }
 
 /// A declared variable, and the value that it is given.
-#[derive(Debug, Drop)]
+#[derive(Drop)]
 pub struct Declarator {
     pub number: u32,
     pub at: Span,

@@ -1,7 +1,7 @@
 use px_base::{CType, Sequence, Span};
 
 /// What a type is of, without its axes.
-#[derive(Clone, Copy, Debug, PartialEq, Eq)]
+#[derive(Clone, Copy, PartialEq, Eq)]
 pub enum BaseType {
     /// A C integer type or `bint`.
     C(CType),
@@ -13,7 +13,7 @@ pub enum BaseType {
 }
 
 /// An axis of a view type (Cython user guide, Typed Memoryviews).
-#[derive(Clone, Copy, Debug, PartialEq, Eq)]
+#[derive(Clone, Copy, PartialEq, Eq)]
 pub enum Axis {
     /// `:`
     Strided,
@@ -25,7 +25,7 @@ pub enum Axis {
 pub type Axes = Sequence<Axis>;
 
 /// A type as it is written: `const`, its base, and the axes of a view; without axes it is no view.
-#[derive(Debug, Drop)]
+#[derive(Drop)]
 pub struct Type {
     pub number: u32,
     pub at: Span,

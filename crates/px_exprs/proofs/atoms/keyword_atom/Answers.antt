@@ -1,8 +1,7 @@
 use Rattle.std.proofs.Common.{refl, subst, arith}
-use Rattle.px_exprs.specs.Terminals.{IsKeyword}
+use Rattle.px_lexer.specs.Terminals.{IsKeyword, terminals_of}
 use Rattle.px_exprs.specs.Grammar.{IsAtom}
-use Rattle.px_exprs.specs.Inputs.{terminals_of}
-use Rattle.px_exprs.proofs.TokenReading.{stands_within}
+use Rattle.px_lexer.proofs.TokenAccess.{stands_within}
 use Rattle.px_exprs.proofs.AtomSteps.{token_read, keyword_stuck}
 use Rattle.px_exprs.proofs.atoms.keyword_atom.Goals as goal
 

@@ -3,7 +3,8 @@ use Rattle.std.proofs.lemmas.Result.{err_from_is_err_and}
 use Rattle.px_lexer.specs.declared.spelling.Keyword.TheVariants as word
 use Rattle.px_lexer.specs.declared.spelling.Operator.TheVariants as sign
 use Rattle.px_lexer.specs.declared.token_list.TokenKind.TheVariants as kind
-use Rattle.px_exprs.proofs.TokenReading.{goes_on, length_terminals}
+use Rattle.px_exprs.proofs.TokenReading.{goes_on}
+use Rattle.px_lexer.proofs.TokenAccess.{length_terminals}
 use Rattle.px_exprs.proofs.AtomSteps.{enclosed_read, sizeof_unopened, sizeof_over, sizeof_refused, sizeof_atom}
 use Rattle.px_exprs.proofs.atoms.sizeof.Goals as goal
 

@@ -1,6 +1,6 @@
 use Rattle.std.proofs.Common.{◌<◌, ◌-◌, ◌+◌, length, ◌∙◌, arith}
 use Rattle.px_exprs.proofs.Stops.{past_no_text}
-use Rattle.px_exprs.proofs.TokenReading.{stands_within}
+use Rattle.px_lexer.proofs.TokenAccess.{stands_within}
 use Rattle.px_exprs.proofs.AtomSteps.{texts_on, texts_read}
 use Rattle.px_exprs.proofs.atoms.texts.Goals as goal
 

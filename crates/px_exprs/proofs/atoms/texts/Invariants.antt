@@ -1,6 +1,6 @@
 use Rattle.std.proofs.Common.{◌≡◌, ℕ, ◌⊎◌, ◌-◌, ◌++◌, List, length}
 use Rattle.px_exprs.specs.Grammar.{AreTexts}
-use Rattle.px_exprs.specs.Inputs.{terminals_of}
+use Rattle.px_lexer.specs.Terminals.{terminals_of}
 use Rattle.px_exprs.proofs.atoms.texts.Given as goal
 
 -- what was read goes on with what follows

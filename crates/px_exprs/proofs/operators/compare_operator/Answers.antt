@@ -2,10 +2,9 @@ use Rattle.std.proofs.Common.{◌+◌, MatchOption, subst, arith}
 use Rattle.px_lexer.specs.declared.spelling.Keyword.{Keyword}
 use Rattle.px_lexer.specs.declared.spelling.Keyword.TheVariants as word
 use Rattle.px_lexer.specs.declared.token_list.TokenKind.TheVariants as kind
-use Rattle.px_exprs.specs.Terminals.{IsKeyword}
+use Rattle.px_lexer.specs.Terminals.{IsKeyword, terminals_of}
 use Rattle.px_exprs.specs.Grammar.{IsCompareOp, compare_signs}
 use Rattle.px_exprs.specs.Parts.{BeginsComparison}
-use Rattle.px_exprs.specs.Inputs.{terminals_of}
 use Rattle.px_exprs.proofs.TokenReading.{goes_on}
 use Rattle.px_exprs.proofs.ComparisonSteps.{begins_inside}
 use Rattle.px_exprs.proofs.operators.compare_operator.Goals as goal
@@ -28,7 +27,7 @@ overflow_add-at c = omega (arith, begins_inside c.args.tokens.now c.args.at c.re
 
 pub overflow_add-result-then-is_keyword : goal.overflow_add-result-then-is_keyword
 overflow_add-result-then-is_keyword c =
-    omega (arith, goes_on c.args.tokens.now (c.args.at + 1) (kind.Keyword word.In) c.requires.input (c.is_keyword.ensures.holds c.if-is_keyword.true) (omega arith), c.requires.input.few)
+    omega (arith, goes_on c.args.tokens.now (c.args.at + 1) (kind.Keyword word.In) c.requires.input (c.is_keyword.ensures.0 c.if-is_keyword.true) (omega arith), c.requires.input.few)
 
 pub overflow_add-result-else-is_keyword : goal.overflow_add-result-else-is_keyword
 overflow_add-result-else-is_keyword c = omega (arith, begins_inside c.args.tokens.now c.args.at c.requires.input c.requires.begins, c.requires.input.few)
@@ -38,7 +37,7 @@ overflow_add-at-in-Some-Is c = omega (arith, begins_inside c.args.tokens.now c.a
 
 pub overflow_add-result-then-is_keyword-2 : goal.overflow_add-result-then-is_keyword-2
 overflow_add-result-then-is_keyword-2 c =
-    omega (arith, goes_on c.args.tokens.now (c.args.at + 1) (kind.Keyword word.Not) c.requires.input (c.is_keyword-in-Some-Is.ensures.holds c.if-is_keyword-2.true) (omega arith), c.requires.input.few)
+    omega (arith, goes_on c.args.tokens.now (c.args.at + 1) (kind.Keyword word.Not) c.requires.input (c.is_keyword-in-Some-Is.ensures.0 c.if-is_keyword-2.true) (omega arith), c.requires.input.few)
 
 pub overflow_add-result-else-is_keyword-2 : goal.overflow_add-result-else-is_keyword-2
 overflow_add-result-else-is_keyword-2 c = omega (arith, begins_inside c.args.tokens.now c.args.at c.requires.input c.requires.begins, c.requires.input.few)
@@ -48,11 +47,11 @@ returns-in-Some-In-clause-inside c = omega (arith, begins_inside c.args.tokens.n
 
 pub returns-then-is_keyword-clause-inside : goal.returns-then-is_keyword-clause-inside
 returns-then-is_keyword-clause-inside c =
-    omega (arith, goes_on c.args.tokens.now (c.args.at + 1) (kind.Keyword word.In) c.requires.input (c.is_keyword.ensures.holds c.if-is_keyword.true) (omega arith))
+    omega (arith, goes_on c.args.tokens.now (c.args.at + 1) (kind.Keyword word.In) c.requires.input (c.is_keyword.ensures.0 c.if-is_keyword.true) (omega arith))
 
 pub returns-then-is_keyword-2-clause-inside : goal.returns-then-is_keyword-2-clause-inside
 returns-then-is_keyword-2-clause-inside c =
-    omega (arith, goes_on c.args.tokens.now (c.args.at + 1) (kind.Keyword word.Not) c.requires.input (c.is_keyword-in-Some-Is.ensures.holds c.if-is_keyword-2.true) (omega arith))
+    omega (arith, goes_on c.args.tokens.now (c.args.at + 1) (kind.Keyword word.Not) c.requires.input (c.is_keyword-in-Some-Is.ensures.0 c.if-is_keyword-2.true) (omega arith))
 
 pub returns-else-is_keyword-2-clause-inside : goal.returns-else-is_keyword-2-clause-inside
 returns-else-is_keyword-2-clause-inside c = omega (arith, begins_inside c.args.tokens.now c.args.at c.requires.input c.requires.begins)

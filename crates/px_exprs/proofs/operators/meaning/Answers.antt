@@ -4,9 +4,9 @@ use Rattle.std.proofs.lemmas.List.{get_or_default}
 use denote.Enum.Bare.{same_true, true_same}
 use Rattle.px_lexer.specs.declared.spelling.Operator.{Operator}
 use Rattle.px_lexer.specs.contracts.spelling.Operator.{the_type}
-use Rattle.px_exprs.specs.Terminals.{Terminal, IsOperator}
+use Rattle.px_lexer.specs.Terminals.{Terminal, IsOperator}
 use Rattle.px_exprs.specs.Grammar.{IsOf}
-use Rattle.px_exprs.proofs.Codes.{one_operator}
+use Rattle.px_lexer.proofs.OneToken.{one_operator}
 use Rattle.px_exprs.proofs.operators.meaning.Goals as goal
 
 pub returns-in_default : goal.returns-in_default

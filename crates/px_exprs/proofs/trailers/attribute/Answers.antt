@@ -2,7 +2,8 @@ use Rattle.std.proofs.Common.{◌+◌, arith}
 use Rattle.std.proofs.lemmas.Result.{err_from_is_err_and}
 use Rattle.px_lexer.specs.declared.spelling.Operator.TheVariants as sign
 use Rattle.px_lexer.specs.declared.token_list.TokenKind.TheVariants as kind
-use Rattle.px_exprs.proofs.TokenReading.{goes_on, name_kind}
+use Rattle.px_exprs.proofs.TokenReading.{goes_on}
+use Rattle.px_lexer.proofs.TokenAccess.{name_kind}
 use Rattle.px_exprs.proofs.TrailerSteps.{attribute_refused, attribute_read}
 use Rattle.px_exprs.proofs.trailers.attribute.Goals as goal
 

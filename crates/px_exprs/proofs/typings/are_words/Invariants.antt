@@ -1,6 +1,6 @@
 use Rattle.std.proofs.Common.{ℕ, length, map, IsTrue}
 use Rattle.px_exprs.specs.Typings.{AreNames}
-use Rattle.px_exprs.specs.Inputs.{terminals_of}
+use Rattle.px_lexer.specs.Terminals.{terminals_of}
 use Rattle.px_exprs.specs.TypeParts.{words_are_ascii}
 use Rattle.px_exprs.proofs.typings.are_words.Given as goal
 

@@ -1,10 +1,12 @@
 use Rattle.std.proofs.Common.{◌+◌, ◌++◌, ◌∷◌, [], refl, sym, ap, subst, ◌∙◌, add-one, arith}
 use Rattle.std.proofs.lemmas.Result.{err_from_is_err_and}
+use Rattle.px_base.proofs.Facts.{denied}
 use Rattle.px_lexer.specs.declared.spelling.Operator.TheVariants as sign
 use Rattle.px_lexer.specs.declared.token_list.TokenKind.TheVariants as kind
 use Rattle.px_exprs.specs.Typings.{AreAxes, IsAxis}
-use Rattle.px_exprs.specs.Inputs.{terminals_of}
-use Rattle.px_exprs.proofs.TokenReading.{goes_on, length_terminals}
+use Rattle.px_lexer.specs.Terminals.{terminals_of}
+use Rattle.px_exprs.proofs.TokenReading.{goes_on}
+use Rattle.px_lexer.proofs.TokenAccess.{length_terminals}
 use Rattle.px_exprs.proofs.TypeReading.{first_unread, next_unread, axes_then, axis_forward, last_ends, ends_within}
 use Rattle.px_exprs.proofs.typings.axes.Goals as goal
 
@@ -23,18 +25,18 @@ loop-tree-init c =
 
 pub overflow_add-to : goal.overflow_add-to
 overflow_add-to c =
-    let comma = c.is_operator.ensures.holds c.loop-tree-test.true in
+    let comma = c.is_operator.ensures.0 c.loop-tree-test.true in
     omega (arith, goes_on c.args.tokens.now c.loop-tree.to (kind.Operator sign.Comma) c.requires.input comma (omega arith), c.requires.input.few)
 
 pub axis-requires-in-loop-tree-clause-inside : goal.axis-requires-in-loop-tree-clause-inside
 axis-requires-in-loop-tree-clause-inside c =
-    let comma = c.is_operator.ensures.holds c.loop-tree-test.true in
+    let comma = c.is_operator.ensures.0 c.loop-tree-test.true in
     omega (arith, goes_on c.args.tokens.now c.loop-tree.to (kind.Operator sign.Comma) c.requires.input comma (omega arith))
 
 pub returns-in_err-next : goal.returns-in_err-next
 returns-in_err-next c =
     let p = err_from_is_err_and c.from_residual-in_err-next.result c.from_residual-in_err-next.ensures.1 in
-    let comma = c.is_operator.ensures.holds c.loop-tree-test.true in
+    let comma = c.is_operator.ensures.0 c.loop-tree-test.true in
     rw (p.1, p.2) (next_unread (terminals_of c.args.tokens.now) c.args.from c.loop-tree.to (c.loop-tree.to + 1) c.loop-tree.tree c.in_err-next.field-0.0
     (add-one c.loop-tree.to) c.loop-tree.invariant.known comma c.in_err-next.ensures)
 
@@ -48,7 +50,7 @@ pub loop-tree-preserved : goal.loop-tree-preserved
 loop-tree-preserved c =
     let ts = terminals_of c.args.tokens.now in
     let next = c.in_ok-next.next in
-    let comma = c.is_operator.ensures.holds c.loop-tree-test.true in
+    let comma = c.is_operator.ensures.0 c.loop-tree-test.true in
     let axis = subst (λ x. IsAxis ts x next.tree next.to) (add-one c.loop-tree.to) c.in_ok-next.ensures.derived.0 in
     record {
       known = subst (λ axes. AreAxes ts c.args.from axes next.to) (sym c.in_ok-push-2.ensures.ok)
@@ -62,6 +64,6 @@ returns c =
     record {
       derived = (c.loop-tree.invariant.known, refl);
       shallow = omega arith;
-      stops = last_ends ts c.loop-tree.to c.loop-tree.invariant.ends (c.is_operator.ensures.fails c.loop-tree-test.false);
+      stops = last_ends ts c.loop-tree.to c.loop-tree.invariant.ends (denied c.is_operator.ensures c.loop-tree-test.false);
       within = ends_within ts c.loop-tree.to c.loop-tree.invariant.ends;
     }

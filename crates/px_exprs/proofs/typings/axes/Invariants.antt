@@ -2,7 +2,7 @@ use Rattle.std.proofs.Common.{◌-◌, length}
 use Rattle.px_lexer.specs.declared.spelling.Operator.TheVariants as sign
 use Rattle.px_exprs.specs.Readings.{EndsElement}
 use Rattle.px_exprs.specs.Typings.{AreAxes}
-use Rattle.px_exprs.specs.Inputs.{terminals_of}
+use Rattle.px_lexer.specs.Terminals.{terminals_of}
 use Rattle.px_exprs.proofs.typings.axes.Given as goal
 
 abbrev pub invariant-loop-tree : goal.invariant-loop-tree

@@ -1,6 +1,6 @@
 use Rattle.std.proofs.Common.{◌≤◌, ◌-◌, length}
 use Rattle.px_exprs.specs.Typings.{IsBase}
-use Rattle.px_exprs.specs.Inputs.{terminals_of}
+use Rattle.px_lexer.specs.Terminals.{terminals_of}
 use Rattle.px_exprs.proofs.typings.base.Given as goal
 
 abbrev pub invariant-loop-longer : goal.invariant-loop-longer

@@ -1,5 +1,5 @@
 use Rattle.std.proofs.Common.{length}
-use Rattle.px_exprs.specs.Inputs.{terminals_of}
+use Rattle.px_lexer.specs.Terminals.{terminals_of}
 use Rattle.px_exprs.proofs.Rows.{IsLeft}
 use Rattle.px_exprs.proofs.typings.base_in.Given as goal
 

@@ -1,7 +1,7 @@
 use Rattle.std.proofs.Common.{◌≡◌, true, sym, refl, subst, MatchOption}
 use Rattle.px_tree.specs.declared.typings.BaseType.{BaseType}
 use Rattle.px_exprs.specs.Typings.{bases}
-use Rattle.px_exprs.specs.Inputs.{terminals_of}
+use Rattle.px_lexer.specs.Terminals.{terminals_of}
 use Rattle.px_exprs.specs.TypeParts.{IsBaseOf, table_is_ascii}
 use Rattle.px_exprs.proofs.TypeReading.{base_told}
 use Rattle.px_exprs.proofs.typings.base_of.Goals as goal

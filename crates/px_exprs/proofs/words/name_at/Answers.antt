@@ -1,7 +1,6 @@
 use Rattle.std.proofs.Common.{ap, chars, subst, sym, IsUtf8}
-use Rattle.px_exprs.specs.Terminals.{terminal_of}
-use Rattle.px_exprs.specs.Inputs.{terminals_of}
-use Rattle.px_exprs.proofs.TokenReading.{item_stands, item_known, no_item, kind_there}
+use Rattle.px_lexer.specs.Terminals.{terminal_of, terminals_of}
+use Rattle.px_lexer.proofs.TokenAccess.{item_stands, item_known, no_item, kind_there}
 use Rattle.px_exprs.proofs.words.name_at.Goals as goal
 
 pub returns-in-Name : goal.returns-in-Name

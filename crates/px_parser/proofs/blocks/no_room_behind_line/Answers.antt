@@ -1,12 +1,12 @@
 use Rattle.std.proofs.Common.{◌≡◌, suc, ◌+◌, Bool, true, false, refl, sym, ap, ap₂, ◌∙◌, subst, arith}
 use Rattle.std.specs.Prelude.{nat_eq, ◌&&◌}
 use Rattle.std.proofs.lemmas.Bool.{and_parts, eq-eqb, eqb-true}
+use Rattle.px_base.proofs.Facts.{denied}
 use Rattle.px_base.specs.declared.refusals.Span.{Span}
-use Rattle.px_exprs.proofs.Codes.{one_place}
+use Rattle.px_lexer.proofs.OneToken.{one_place}
 use Rattle.px_lexer.specs.declared.token_list.TokenKind.TheVariants as kind
-use Rattle.px_exprs.specs.Terminals.{HasKind, IsAt}
-use Rattle.px_exprs.specs.Inputs.{terminals_of}
-use Rattle.px_exprs.proofs.TokenReading.{length_terminals}
+use Rattle.px_lexer.specs.Terminals.{HasKind, IsAt, terminals_of}
+use Rattle.px_lexer.proofs.TokenAccess.{length_terminals}
 use Rattle.px_parser.specs.Readings.{IsStuck, Anywhere}
 use Rattle.px_parser.specs.StatementGrammar.{Block}
 use Rattle.px_parser.proofs.BlockSteps.{newline_over, newline_stuck}
@@ -19,7 +19,7 @@ pub returns-then-is_indent : goal.returns-then-is_indent
 returns-then-is_indent c =
     let inside = c.requires.input.goes_on c.args.from kind.Newline c.requires.newline (λ e. cc) in
     let same : c.args.from + 1 ≡ suc c.args.from = omega arith in
-    let indent : HasKind (terminals_of c.args.tokens.now) (suc c.args.from) kind.Indent = subst (λ k. HasKind (terminals_of c.args.tokens.now) k kind.Indent) same (c.is_indent.ensures.holds c.if-is_indent.true) in
+    let indent : HasKind (terminals_of c.args.tokens.now) (suc c.args.from) kind.Indent = subst (λ k. HasKind (terminals_of c.args.tokens.now) k kind.Indent) same (c.is_indent.ensures.0 c.if-is_indent.true) in
     newline_over (terminals_of c.args.tokens.now) c.args.from c.requires.newline (omega (arith, inside, length_terminals c.args.tokens.now))
     (λ together. (indent, omega (arith, c.requires.input.goes_on (suc c.args.from) kind.Indent indent (λ e. cc), length_terminals c.args.tokens.now)))
 
@@ -43,7 +43,7 @@ returns-then-eq c =
     let next : IsAt ts (suc c.args.from) c.place.result = subst (λ k. IsAt ts k c.place.result) same (subst (λ s. IsAt ts (c.args.from + 1) s) spans c.place-2.ensures) in
     let stuck : IsStuck Block Anywhere ts c.args.from 0 (suc c.args.from) =
     newline_stuck ts c.args.from (omega (arith, inside, length_terminals c.args.tokens.now)) (record { line = c.requires.newline; next = refl; at = c.place.result; first = c.place.ensures; second = next })
-    (λ indent. c.is_indent.ensures.fails c.if-is_indent.false (subst (λ k. HasKind ts k kind.Indent) (sym same) indent)) in
+    (λ indent. denied c.is_indent.ensures c.if-is_indent.false (subst (λ k. HasKind ts k kind.Indent) (sym same) indent)) in
     subst (IsStuck Block Anywhere ts c.args.from 0) (sym same) stuck
 
 pub returns-else-eq : goal.returns-else-eq

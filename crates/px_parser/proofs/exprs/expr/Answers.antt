@@ -1,7 +1,7 @@
 use Rattle.std.proofs.lemmas.Result.{err_from_is_err_and}
 use Rattle.px_exprs.specs.Codes.{Past}
 use Rattle.px_exprs.specs.Grammar.{IsExpr}
-use Rattle.px_exprs.specs.Inputs.{terminals_of}
+use Rattle.px_lexer.specs.Terminals.{terminals_of}
 use Rattle.px_parser.proofs.NestedReadings.{expr_lines, nested_reading, nested_unread}
 use Rattle.px_parser.proofs.exprs.expr.Goals as goal
 

@@ -1,5 +1,5 @@
 use Rattle.std.proofs.lemmas.Result.{err_from_is_err_and}
-use Rattle.px_exprs.specs.Inputs.{terminals_of}
+use Rattle.px_lexer.specs.Terminals.{terminals_of}
 use Rattle.px_exprs.specs.Runs.{nesting_limit}
 use Rattle.px_parser.specs.Parsing.{strict}
 use Rattle.px_parser.specs.Ends.{EndsExprs}

@@ -1,7 +1,6 @@
 use Rattle.std.proofs.Common.{ℕ, ◌<◌}
 use Rattle.px_lexer.specs.declared.token_list.TokenKind.TheVariants as kind
-use Rattle.px_exprs.specs.Terminals.{HasKind}
-use Rattle.px_exprs.specs.Inputs.{terminals_of}
+use Rattle.px_lexer.specs.Terminals.{HasKind, terminals_of}
 use Rattle.px_parser.proofs.foreign.foreign.Given as goal
 
 abbrev pub invariant-loop-at : goal.invariant-loop-at

@@ -1,6 +1,7 @@
 use Rattle.std.proofs.Common.{◌<◌, ◌-◌, length, arith}
 use Rattle.std.proofs.lemmas.Result.{err_from_is_err_and}
-use Rattle.px_exprs.specs.Inputs.{terminals_of}
+use Rattle.px_base.proofs.Facts.{denied}
+use Rattle.px_lexer.specs.Terminals.{terminals_of}
 use Rattle.px_parser.proofs.ReadingSteps.{inside_tokens}
 use Rattle.px_parser.proofs.FunctionShapes.{solid_decorator_line}
 use Rattle.px_parser.proofs.FunctionSteps.{no_decorators, decorators_more, decorators_unread, decorators_read}
@@ -12,7 +13,7 @@ loop-alloc-init c = no_decorators c.args.tokens.now c.args.from _ c.new-tree.ens
 pub returns-in_err-next : goal.returns-in_err-next
 returns-in_err-next c =
     let p = err_from_is_err_and c.from_residual.result c.from_residual.ensures.1 in
-    λ room. rw (p.1, p.2) (decorators_unread (terminals_of c.args.tokens.now) c.args.from _ room _ _ c.loop-alloc.invariant (c.is_operator.ensures.holds c.loop-alloc-test.true) (c.in_err-next.ensures room))
+    λ room. rw (p.1, p.2) (decorators_unread (terminals_of c.args.tokens.now) c.args.from _ room _ _ c.loop-alloc.invariant (c.is_operator.ensures.0 c.loop-alloc-test.true) (c.in_err-next.ensures room))
 
 pub loop-alloc-smaller : goal.loop-alloc-smaller
 loop-alloc-smaller c =
@@ -25,4 +26,4 @@ pub loop-alloc-preserved : goal.loop-alloc-preserved
 loop-alloc-preserved c = decorators_more c.loop-alloc.invariant c.in_ok-push.ensures.ok c.in_ok-next.ensures
 
 pub returns : goal.returns
-returns c = λ room. decorators_read room c.loop-alloc.invariant (c.is_operator.ensures.fails c.loop-alloc-test.false)
+returns c = λ room. decorators_read room c.loop-alloc.invariant (denied c.is_operator.ensures c.loop-alloc-test.false)

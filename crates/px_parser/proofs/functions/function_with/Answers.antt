@@ -1,7 +1,7 @@
 use Rattle.std.proofs.Common.{arith}
 use Rattle.std.proofs.lemmas.Result.{err_from_is_err_and}
-use Rattle.px_exprs.specs.Inputs.{terminals_of}
-use Rattle.px_exprs.proofs.TokenReading.{stands_within}
+use Rattle.px_lexer.specs.Terminals.{terminals_of}
+use Rattle.px_lexer.proofs.TokenAccess.{stands_within}
 use Rattle.px_parser.proofs.FunctionReading.{named_memory}
 use Rattle.px_parser.proofs.functions.function_with.Goals as goal
 

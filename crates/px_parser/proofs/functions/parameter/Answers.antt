@@ -1,6 +1,7 @@
 use Rattle.std.proofs.Common.{arith}
 use Rattle.std.proofs.lemmas.Result.{err_from_is_err_and}
-use Rattle.px_exprs.specs.Inputs.{terminals_of}
+use Rattle.px_lexer.specs.Terminals.{terminals_of}
+use Rattle.px_parser.proofs.TokenShapes.{misread}
 use Rattle.px_parser.proofs.ReadingSteps.{inside_tokens}
 use Rattle.px_parser.specs.ModuleGrammar.{Parameter}
 use Rattle.px_parser.specs.Ends.{EndsParameter}
@@ -19,7 +20,7 @@ not_none-requires-clause-inside c = inside_tokens c.args.tokens.now _ (c.in_ok-h
 pub returns-in_err-behind : goal.returns-in_err-behind
 returns-in_err-behind c =
     let p = err_from_is_err_and c.from_residual-in_err-behind.result c.from_residual-in_err-behind.ensures.1 in
-    λ room. rw (p.1, p.2) (parameter_second (terminals_of c.args.tokens.now) c.args.from _ room _ _ (c.in_ok-head.ensures room) (c.in_err-behind.ensures room))
+    λ room. rw (p.1, p.2) (parameter_second (terminals_of c.args.tokens.now) c.args.from _ room _ _ (c.in_ok-head.ensures room) (misread (c.in_err-behind.ensures room)))
 
 pub overflow_cast-result : goal.overflow_cast-result
 overflow_cast-result c =

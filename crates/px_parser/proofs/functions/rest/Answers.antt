@@ -1,5 +1,6 @@
 use Rattle.std.proofs.lemmas.Result.{err_from_is_err_and}
-use Rattle.px_exprs.specs.Inputs.{terminals_of}
+use Rattle.px_lexer.specs.Terminals.{terminals_of}
+use Rattle.px_parser.proofs.TokenShapes.{misread}
 use Rattle.px_parser.proofs.ReadingSteps.{inside_tokens}
 use Rattle.px_exprs.specs.Runs.{nesting_limit}
 use Rattle.px_parser.proofs.FunctionSteps.{rest_opening, rest_parameters, rest_closing, rest_tail, rest_colon, rest_body, rest_read}
@@ -8,7 +9,7 @@ use Rattle.px_parser.proofs.functions.rest.Goals as goal
 pub returns-in_err-opening : goal.returns-in_err-opening
 returns-in_err-opening c =
     let p = err_from_is_err_and c.from_residual.result c.from_residual.ensures.1 in
-    rw (p.1, p.2) (rest_opening c.args.kind (terminals_of c.args.tokens.now) c.args.from nesting_limit _ (c.in_err-opening.ensures nesting_limit))
+    rw (p.1, p.2) (rest_opening c.args.kind (terminals_of c.args.tokens.now) c.args.from nesting_limit _ (misread (c.in_err-opening.ensures nesting_limit)))
 
 pub parameters-requires-clause-inside : goal.parameters-requires-clause-inside
 parameters-requires-clause-inside c = inside_tokens c.args.tokens.now _ (c.in_ok-opening.ensures 0).within
@@ -24,7 +25,7 @@ operator-requires-2-clause-inside c = inside_tokens c.args.tokens.now _ (c.in_ok
 pub returns-in_err-closing : goal.returns-in_err-closing
 returns-in_err-closing c =
     let p = err_from_is_err_and c.from_residual-in_err-closing.result c.from_residual-in_err-closing.ensures.1 in
-    rw (p.1, p.2) (rest_closing c.args.kind (terminals_of c.args.tokens.now) c.args.from _ _ nesting_limit _ _ (c.in_ok-opening.ensures nesting_limit) (c.in_ok-params.ensures nesting_limit) (c.in_err-closing.ensures nesting_limit))
+    rw (p.1, p.2) (rest_closing c.args.kind (terminals_of c.args.tokens.now) c.args.from _ _ nesting_limit _ _ (c.in_ok-opening.ensures nesting_limit) (c.in_ok-params.ensures nesting_limit) (misread (c.in_err-closing.ensures nesting_limit)))
 
 pub tail-requires-clause-inside : goal.tail-requires-clause-inside
 tail-requires-clause-inside c = inside_tokens c.args.tokens.now _ (c.in_ok-closing.ensures 0).within
@@ -40,7 +41,7 @@ operator-requires-3-clause-inside c = inside_tokens c.args.tokens.now _ (c.in_ok
 pub returns-in_err-colon : goal.returns-in_err-colon
 returns-in_err-colon c =
     let p = err_from_is_err_and c.from_residual-in_err-colon.result c.from_residual-in_err-colon.ensures.1 in
-    rw (p.1, p.2) (rest_colon c.args.kind (terminals_of c.args.tokens.now) c.args.from _ _ _ _ nesting_limit _ _ _ (c.in_ok-opening.ensures nesting_limit) (c.in_ok-params.ensures nesting_limit) (c.in_ok-closing.ensures nesting_limit) (c.in_ok-tail.ensures nesting_limit) (c.in_err-colon.ensures nesting_limit))
+    rw (p.1, p.2) (rest_colon c.args.kind (terminals_of c.args.tokens.now) c.args.from _ _ _ _ nesting_limit _ _ _ (c.in_ok-opening.ensures nesting_limit) (c.in_ok-params.ensures nesting_limit) (c.in_ok-closing.ensures nesting_limit) (c.in_ok-tail.ensures nesting_limit) (misread (c.in_err-colon.ensures nesting_limit)))
 
 pub block-requires-clause-inside : goal.block-requires-clause-inside
 block-requires-clause-inside c = inside_tokens c.args.tokens.now _ (c.in_ok-colon.ensures 0).within

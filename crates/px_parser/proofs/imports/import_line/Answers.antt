@@ -1,10 +1,12 @@
 use Rattle.std.proofs.Common.{ℕ, arith}
 use Rattle.std.proofs.lemmas.Result.{err_from_is_err_and}
+use Rattle.px_base.proofs.Facts.{denied}
 use Rattle.px_lexer.specs.declared.token_list.TokenKind.TheVariants as kind
-use Rattle.px_exprs.specs.Inputs.{terminals_of}
+use Rattle.px_lexer.specs.Terminals.{terminals_of}
 use Rattle.px_parser.specs.Readings.{IsReading}
 use Rattle.px_parser.specs.Ends.{IsBefore}
 use Rattle.px_parser.specs.ModuleGrammar.{WholeImport, PartImport}
+use Rattle.px_parser.proofs.TokenShapes.{misread}
 use Rattle.px_parser.proofs.ImportShapes.{SomeImport}
 use Rattle.px_parser.proofs.ReadingSteps.{read_left, read_right, inside_tokens}
 use Rattle.px_parser.proofs.ImportReading.{line_whole, line_part, line_unended, line_read}
@@ -14,12 +16,12 @@ use Rattle.px_parser.proofs.imports.import_line.Goals.{then-is_keyword+in_ok-fou
 pub returns-in_err-found : goal.returns-in_err-found
 returns-in_err-found c =
     let p = err_from_is_err_and c.from_residual.result c.from_residual.ensures.1 in
-    λ room. rw (p.1, p.2) (line_part (terminals_of c.args.tokens.now) c.args.from room _ (c.is_keyword.ensures.holds c.if-is_keyword.true) (c.in_err-found.ensures room))
+    λ room. rw (p.1, p.2) (line_part (terminals_of c.args.tokens.now) c.args.from room _ (c.is_keyword.ensures.0 c.if-is_keyword.true) (c.in_err-found.ensures room))
 
 pub returns-in_err-found-2 : goal.returns-in_err-found-2
 returns-in_err-found-2 c =
     let p = err_from_is_err_and c.from_residual-in_err-found-2.result c.from_residual-in_err-found-2.ensures.1 in
-    λ room. rw (p.1, p.2) (line_whole (terminals_of c.args.tokens.now) c.args.from room _ (c.is_keyword.ensures.fails c.if-is_keyword.false) (c.in_err-found-2.ensures room))
+    λ room. rw (p.1, p.2) (line_whole (terminals_of c.args.tokens.now) c.args.from room _ (denied c.is_keyword.ensures c.if-is_keyword.false) (c.in_err-found-2.ensures room))
 
 pub newline-requires-clause-inside : goal.newline-requires-clause-inside
 newline-requires-clause-inside c =
@@ -36,7 +38,7 @@ returns-in_err-end c =
       | else-is_keyword+in_ok-found-2 w ↦ rw w.found-is (read_left PartImport (w.in_ok-found-2.ensures room))
     ] in
     let p = err_from_is_err_and c.from_residual-in_err-end.result c.from_residual-in_err-end.ensures.1 in
-    λ room. rw (p.1, p.2) (line_unended (terminals_of c.args.tokens.now) c.args.from c.if-is_keyword.found.to room c.if-is_keyword.found.tree _ (some room) (c.in_err-end.ensures room))
+    λ room. rw (p.1, p.2) (line_unended (terminals_of c.args.tokens.now) c.args.from c.if-is_keyword.found.to room c.if-is_keyword.found.tree _ (some room) (misread (c.in_err-end.ensures room)))
 
 pub overflow_cast-result : goal.overflow_cast-result
 overflow_cast-result c =

@@ -1,6 +1,7 @@
 use Rattle.std.proofs.Common.{◌<◌, ◌-◌, add-one, length, arith}
 use Rattle.std.proofs.lemmas.Result.{err_from_is_err_and}
-use Rattle.px_exprs.specs.Inputs.{terminals_of}
+use Rattle.px_base.proofs.Facts.{denied}
+use Rattle.px_lexer.specs.Terminals.{terminals_of}
 use Rattle.px_parser.proofs.ReadingSteps.{kind_read, inside_tokens}
 use Rattle.px_lexer.specs.declared.spelling.Operator.TheVariants as sign
 use Rattle.px_lexer.specs.declared.token_list.TokenKind.TheVariants as kind
@@ -20,7 +21,7 @@ loop-alloc-init c = separated_one (kind.Operator sign.Comma) c.new-tree.ensures 
 pub returns-in_err-next : goal.returns-in_err-next
 returns-in_err-next c =
     let p = err_from_is_err_and c.from_residual-in_err-next.result c.from_residual-in_err-next.ensures.1 in
-    λ room. rw (p.1, p.2) (names_next (terminals_of c.args.tokens.now) c.args.from _ _ room _ _ c.loop-alloc.invariant (kind_read c.args.tokens.now _ _ room c.requires.input (c.is_operator.ensures.holds c.loop-alloc-test.true) (λ e. cc) (add-one c.loop-alloc.to)) (c.in_err-next.ensures room))
+    λ room. rw (p.1, p.2) (names_next (terminals_of c.args.tokens.now) c.args.from _ _ room _ _ c.loop-alloc.invariant (kind_read c.args.tokens.now _ _ room c.requires.input (c.is_operator.ensures.0 c.loop-alloc-test.true) (λ e. cc) (add-one c.loop-alloc.to)) (c.in_err-next.ensures room))
 
 pub loop-alloc-smaller : goal.loop-alloc-smaller
 loop-alloc-smaller c =
@@ -30,10 +31,10 @@ loop-alloc-smaller c =
     less
 
 pub loop-alloc-preserved : goal.loop-alloc-preserved
-loop-alloc-preserved c = separated_more (kind.Operator sign.Comma) c.loop-alloc.invariant c.in_ok-push-2.ensures.ok (λ room. kind_read c.args.tokens.now _ _ room c.requires.input (c.is_operator.ensures.holds c.loop-alloc-test.true) (λ e. cc) (add-one c.loop-alloc.to)) c.in_ok-next.ensures
+loop-alloc-preserved c = separated_more (kind.Operator sign.Comma) c.loop-alloc.invariant c.in_ok-push-2.ensures.ok (λ room. kind_read c.args.tokens.now _ _ room c.requires.input (c.is_operator.ensures.0 c.loop-alloc-test.true) (λ e. cc) (add-one c.loop-alloc.to)) c.in_ok-next.ensures
 
 pub returns-then-is_newline : goal.returns-then-is_newline
-returns-then-is_newline c = λ room. separated_read (kind.Operator sign.Comma) c.loop-alloc.invariant (c.is_newline.ensures.holds c.if-is_newline.true)
+returns-then-is_newline c = λ room. separated_read (kind.Operator sign.Comma) c.loop-alloc.invariant (c.is_newline.ensures.0 c.if-is_newline.true)
 
 pub returns-else-is_newline : goal.returns-else-is_newline
-returns-else-is_newline c = λ room. names_stuck (terminals_of c.args.tokens.now) c.args.from c.loop-alloc.to room _ c.loop-alloc.invariant (c.is_operator.ensures.fails c.loop-alloc-test.false) (c.is_newline.ensures.fails c.if-is_newline.false)
+returns-else-is_newline c = λ room. names_stuck (terminals_of c.args.tokens.now) c.args.from c.loop-alloc.to room _ c.loop-alloc.invariant (denied c.is_operator.ensures c.loop-alloc-test.false) (denied c.is_newline.ensures c.if-is_newline.false)

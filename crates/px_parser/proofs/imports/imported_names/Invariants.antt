@@ -1,7 +1,7 @@
 use Rattle.std.proofs.Common.{◌-◌, length}
 use Rattle.px_lexer.specs.declared.spelling.Operator.TheVariants as sign
 use Rattle.px_lexer.specs.declared.token_list.TokenKind.TheVariants as kind
-use Rattle.px_exprs.specs.Inputs.{terminals_of}
+use Rattle.px_lexer.specs.Terminals.{terminals_of}
 use Rattle.px_parser.specs.Ends.{EndsAlias}
 use Rattle.px_parser.specs.ModuleGrammar.{Imported}
 use Rattle.px_parser.proofs.SeparatedSteps.{IsSeparated}

@@ -1,6 +1,7 @@
 use Rattle.std.proofs.Common.{◌-◌, ◌<◌, length, arith}
 use Rattle.std.proofs.lemmas.Result.{err_from_is_err_and}
-use Rattle.px_exprs.proofs.TokenReading.{length_terminals}
+use Rattle.px_base.proofs.Facts.{denied}
+use Rattle.px_lexer.proofs.TokenAccess.{length_terminals}
 use Rattle.px_parser.proofs.Steps.{fails}
 use Rattle.px_parser.proofs.ReadingSteps.{inside_terminals, inside_tokens}
 use Rattle.px_parser.proofs.ItemLoop.{items_begun, items_on, items_read, step_items_next, item_grows}
@@ -15,7 +16,7 @@ item-requires-clause-inside c = inside_tokens c.args.tokens.now _ c.loop-alloc.i
 pub returns-in_err-next : goal.returns-in_err-next
 returns-in_err-next c =
     let p = err_from_is_err_and c.from_residual.result c.from_residual.ensures.1 in
-    rw (p.1, p.2) (fails (step_items_next c.loop-alloc.invariant (c.is_end.ensures.fails c.loop-alloc-test.true)) c.in_err-next.field-0.0 c.in_err-next.ensures)
+    rw (p.1, p.2) (fails (step_items_next c.loop-alloc.invariant (denied c.is_end.ensures c.loop-alloc-test.true)) c.in_err-next.field-0.0 c.in_err-next.ensures)
 
 pub loop-alloc-smaller : goal.loop-alloc-smaller
 loop-alloc-smaller c =
@@ -27,4 +28,4 @@ pub loop-alloc-preserved : goal.loop-alloc-preserved
 loop-alloc-preserved c = items_on _ c.loop-alloc.invariant c.in_ok-next.ensures c.in_ok-tree.ensures
 
 pub returns : goal.returns
-returns c = items_read c.loop-alloc.invariant (c.is_end.ensures.holds c.loop-alloc-test.false)
+returns c = items_read c.loop-alloc.invariant (c.is_end.ensures.0 c.loop-alloc-test.false)

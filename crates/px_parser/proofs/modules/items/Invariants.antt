@@ -1,5 +1,5 @@
 use Rattle.std.proofs.Common.{◌-◌, length}
-use Rattle.px_exprs.specs.Inputs.{terminals_of}
+use Rattle.px_lexer.specs.Terminals.{terminals_of}
 use Rattle.px_exprs.specs.Runs.{nesting_limit}
 use Rattle.px_parser.proofs.ItemLoop.{AreItems}
 use Rattle.px_parser.proofs.modules.items.Given as goal

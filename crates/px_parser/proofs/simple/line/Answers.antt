@@ -1,6 +1,8 @@
 use Rattle.std.proofs.Common.{inl, inr, ◌+◌, refl, arith}
 use Rattle.std.proofs.lemmas.Result.{err_from_is_err_and}
-use Rattle.px_exprs.specs.Inputs.{terminals_of}
+use Rattle.px_base.proofs.Facts.{denied}
+use Rattle.px_lexer.specs.Terminals.{terminals_of}
+use Rattle.px_parser.proofs.TokenShapes.{misread}
 use Rattle.px_parser.proofs.Steps.{fails}
 use Rattle.px_parser.proofs.SimpleShapes.{good_simple}
 use Rattle.px_parser.proofs.LineSteps.{EndsLine, line_begins, line_first, line_next, line_more, line_newline, line_exit, ends_newline, ends_read}
@@ -20,14 +22,14 @@ pub returns-in_err-next : goal.returns-in_err-next
 returns-in_err-next c =
     let p = err_from_is_err_and c.from_residual-in_err-next.result c.from_residual-in_err-next.ensures.1 in
     λ room. rw (p.1, p.2)
-    (fails (line_next {p = c.loop-alloc.to + 1} (c.loop-alloc.invariant.0 room) (c.loop-alloc-test.ensures.holds refl) (omega arith) (c.if-not-is_newline.ensures.fails refl)) _ (c.in_err-next.ensures room))
+    (fails (line_next {p = c.loop-alloc.to + 1} (c.loop-alloc.invariant.0 room) (c.loop-alloc-test.ensures.0 refl) (omega arith) (denied c.if-not-is_newline.ensures refl)) _ (c.in_err-next.ensures room))
 
 pub loop-alloc-smaller : goal.loop-alloc-smaller
 loop-alloc-smaller c = omega (arith, good_simple.sound.forward (c.in_ok-next.ensures 0).derived, c.loop-alloc.invariant.1)
 
 pub loop-alloc-preserved : goal.loop-alloc-preserved
 loop-alloc-preserved c = rw c.in_ok-push-2.ensures.ok (
-  (λ room. line_more {p = c.loop-alloc.to + 1} (c.loop-alloc.invariant.0 room) (c.loop-alloc-test.ensures.holds refl) (omega arith) (c.in_ok-next.ensures room)),
+  (λ room. line_more {p = c.loop-alloc.to + 1} (c.loop-alloc.invariant.0 room) (c.loop-alloc-test.ensures.0 refl) (omega arith) (c.in_ok-next.ensures room)),
   reading_inside c.args.tokens.now (c.in_ok-next.ensures 0),
 )
 
@@ -37,23 +39,23 @@ returns-in_err-end c =
     let p = err_from_is_err_and c.from_residual-in_err-end.result c.from_residual-in_err-end.ensures.1 in
     let ends : EndsLine ts c.loop-alloc.to c.if-is_operator.to =
     line_exit (elim c.loop-alloc-test.branch [
-      | then-loop-alloc-test+else-not-is_newline w ↦ inl (w.loop-alloc-test.ensures.holds refl, w.if-not-is_newline.ensures.holds refl)
-      | else-loop-alloc-test w ↦ inr (w.loop-alloc-test.ensures.fails refl)
+      | then-loop-alloc-test+else-not-is_newline w ↦ inl (w.loop-alloc-test.ensures.0 refl, w.if-not-is_newline.ensures.0 refl)
+      | else-loop-alloc-test w ↦ inr (denied w.loop-alloc-test.ensures refl)
     ]) (elim c.if-is_operator.branch [
-      | then-is_operator w ↦ inl (w.if-is_operator.ensures.holds refl, w.to-is)
-      | else-is_operator w ↦ inr (w.if-is_operator.ensures.fails refl, w.to-is)
+      | then-is_operator w ↦ inl (w.if-is_operator.ensures.0 refl, w.to-is)
+      | else-is_operator w ↦ inr (denied w.if-is_operator.ensures refl, w.to-is)
     ]) in
-    λ room. rw (p.1, p.2) (line_newline c.args.from room (ends_newline (c.loop-alloc.invariant.0 room) ends) _ (c.in_err-end.ensures room))
+    λ room. rw (p.1, p.2) (line_newline c.args.from room (ends_newline (c.loop-alloc.invariant.0 room) ends) _ (misread (c.in_err-end.ensures room)))
 
 pub returns : goal.returns
 returns c =
     let ts = terminals_of c.args.tokens.now in
     let ends : EndsLine ts c.loop-alloc.to c.if-is_operator.to =
     line_exit (elim c.loop-alloc-test.branch [
-      | then-loop-alloc-test+else-not-is_newline w ↦ inl (w.loop-alloc-test.ensures.holds refl, w.if-not-is_newline.ensures.holds refl)
-      | else-loop-alloc-test w ↦ inr (w.loop-alloc-test.ensures.fails refl)
+      | then-loop-alloc-test+else-not-is_newline w ↦ inl (w.loop-alloc-test.ensures.0 refl, w.if-not-is_newline.ensures.0 refl)
+      | else-loop-alloc-test w ↦ inr (denied w.loop-alloc-test.ensures refl)
     ]) (elim c.if-is_operator.branch [
-      | then-is_operator w ↦ inl (w.if-is_operator.ensures.holds refl, w.to-is)
-      | else-is_operator w ↦ inr (w.if-is_operator.ensures.fails refl, w.to-is)
+      | then-is_operator w ↦ inl (w.if-is_operator.ensures.0 refl, w.to-is)
+      | else-is_operator w ↦ inr (denied w.if-is_operator.ensures refl, w.to-is)
     ]) in
     λ room. ends_read (c.loop-alloc.invariant.0 room) ends (c.in_ok-end.ensures room)

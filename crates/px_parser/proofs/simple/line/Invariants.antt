@@ -1,5 +1,5 @@
 use Rattle.std.proofs.Common.{ℕ, ◌<◌, ◌-◌, length}
-use Rattle.px_exprs.specs.Inputs.{terminals_of}
+use Rattle.px_lexer.specs.Terminals.{terminals_of}
 use Rattle.px_parser.proofs.LineSteps.{IsLineSoFar}
 use Rattle.px_parser.proofs.simple.line.Given as goal
 

@@ -1,6 +1,6 @@
 use Rattle.std.proofs.Common.{arith}
 use Rattle.std.proofs.lemmas.Result.{err_from_is_err_and}
-use Rattle.px_exprs.specs.Inputs.{terminals_of}
+use Rattle.px_lexer.specs.Terminals.{terminals_of}
 use Rattle.px_parser.proofs.Steps.{fails}
 use Rattle.px_parser.proofs.SimpleSteps.{simple_first, simple_read}
 use Rattle.px_parser.proofs.TokenSteps.{reading_inside}

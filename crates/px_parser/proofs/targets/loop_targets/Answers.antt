@@ -1,9 +1,11 @@
-use Rattle.std.proofs.Common.{◌∙◌, ◌<◌, ◌-◌, length, sym, subst, arith}
-use Rattle.std.proofs.lemmas.Bool.{false≢true}
+use Rattle.std.proofs.Common.{sym, subst}
 use Rattle.std.proofs.lemmas.Result.{err_from_is_err_and}
-use Rattle.px_exprs.specs.Inputs.{terminals_of}
-use Rattle.px_exprs.proofs.TokenReading.{length_terminals}
-use Rattle.px_parser.proofs.TargetsLoops.{Looping, first_target_refused, next_target_refused, looping_begins, looping_on, target_forward, one_read, several_read}
+use Rattle.px_lexer.specs.Terminals.{terminals_of}
+use Rattle.px_parser.specs.Shapes.{Nested}
+use Rattle.px_parser.specs.Ends.{EndsLoopTarget}
+use Rattle.px_parser.specs.Readings.{IsReading}
+use Rattle.px_parser.specs.StatementGrammar.{IsTarget}
+use Rattle.px_parser.proofs.TargetsLoops.{first_target_refused}
 use Rattle.px_parser.proofs.targets.loop_targets.Goals as goal
 
 pub returns-in_err-first : goal.returns-in_err-first
@@ -11,33 +13,6 @@ returns-in_err-first c =
     let p = err_from_is_err_and c.from_residual.result c.from_residual.ensures.1 in
     rw (p.1, p.2) (λ room. first_target_refused (terminals_of c.args.tokens.now) c.args.from room _ (c.in_err-first.ensures room))
 
-pub loop-others-init : goal.loop-others-init
-loop-others-init c =
-    subst (λ es. Looping (terminals_of c.args.tokens.now) c.args.from c.in_ok-first.first.tree c.in_ok-first.first.to es c.in_ok-first.first.to) (sym c.new-others.ensures) (looping_begins c.in_ok-first.ensures)
-
-pub returns-in_err-next : goal.returns-in_err-next
-returns-in_err-next c =
-    let p = err_from_is_err_and c.from_residual-in_err-next.result c.from_residual-in_err-next.ensures.1 in
-    rw (p.1, p.2) (λ room. next_target_refused c.loop-others.invariant (c.is_operator.ensures.holds c.loop-others-test.true) room _ (c.in_err-next.ensures room))
-
-pub loop-others-smaller : goal.loop-others-smaller
-loop-others-smaller c =
-    let forward = target_forward (c.in_ok-next.ensures 0) in
-    let inside = c.loop-others.invariant.within in
-    let less : length c.args.tokens.now.list - c.in_ok-next.next.to < length c.args.tokens.now.list - c.loop-others.to = omega (arith, forward, inside, length_terminals c.args.tokens.now) in
-    less
-
-pub loop-others-preserved : goal.loop-others-preserved
-loop-others-preserved c =
-    subst (λ es. Looping (terminals_of c.args.tokens.now) c.args.from c.in_ok-first.first.tree c.in_ok-first.first.to es c.in_ok-next.next.to) (sym c.in_ok-push.ensures.ok)
-    (looping_on c.loop-others.invariant (c.is_operator.ensures.holds c.loop-others-test.true) c.in_ok-next.ensures)
-
-pub returns-then-is_empty : goal.returns-then-is_empty
-returns-then-is_empty c = one_read c.loop-others.invariant (c.is_operator.ensures.fails c.loop-others-test.false) (c.is_empty.ensures.0 c.if-is_empty.true)
-
-pub list-requires-clause-behind : goal.list-requires-clause-behind
-list-requires-clause-behind c = omega (arith, (c.in_ok-first.ensures 0).within, length_terminals c.args.tokens.now)
-
-pub returns : goal.returns
-returns c =
-    several_read c.loop-others.invariant (c.is_operator.ensures.fails c.loop-others-test.false) (λ e. false≢true (sym c.if-is_empty.false ∙ c.is_empty.ensures.1 e)) c.in_ok-tree.ensures
+pub further_targets-requires-clause-read : goal.further_targets-requires-clause-read
+further_targets-requires-clause-read c = λ room.
+    subst (λ e. IsReading (Nested IsTarget) EndsLoopTarget (terminals_of c.args.tokens.now) c.args.from room e c.in_ok-first.first.to) (sym c.in_ok-first_tree.ensures) (c.in_ok-first.ensures room)

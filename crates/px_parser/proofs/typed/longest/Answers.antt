@@ -1,6 +1,6 @@
 use Rattle.std.proofs.Common.{◌+◌, sym, subst, add-one, arith}
 use Rattle.px_exprs.specs.Typings.{IsBase}
-use Rattle.px_exprs.specs.Inputs.{terminals_of}
+use Rattle.px_lexer.specs.Terminals.{terminals_of}
 use Rattle.px_exprs.proofs.TypeReading.{base_within, base_absent}
 use Rattle.px_parser.proofs.typed.longest.Goals as goal
 

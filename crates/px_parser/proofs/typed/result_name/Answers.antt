@@ -1,9 +1,9 @@
 use Rattle.std.proofs.lemmas.Result.{err_from_is_err_and}
 use Rattle.std.proofs.Common.{suc, codes, sym, subst, add-one, arith}
+use Rattle.px_base.proofs.Facts.{denied}
 use Rattle.px_tree.specs.declared.modules.ResultType.TheVariants as result_type
-use Rattle.px_exprs.specs.Terminals.{IsName}
-use Rattle.px_exprs.specs.Inputs.{terminals_of}
-use Rattle.px_exprs.proofs.TokenReading.{length_terminals}
+use Rattle.px_lexer.specs.Terminals.{IsName, terminals_of}
+use Rattle.px_lexer.proofs.TokenAccess.{length_terminals}
 use Rattle.px_parser.proofs.TypedNames.{SomeName}
 use Rattle.px_parser.proofs.TypedReading.{Named}
 use Rattle.px_parser.proofs.MaybeTyped.{result_choice, choice_unread, choice_read, alone_reads, void_reads, void_first, void_out, void_absent}
@@ -14,28 +14,28 @@ pub returns-then-is_name : goal.returns-then-is_name
 returns-then-is_name c = λ room.
     let tokens = c.args.tokens.now in
     let ts = terminals_of tokens in
-    let void = c.is_word.ensures.holds c.if-is_word.true in
-    let named = subst (SomeName ts) (add-one c.args.from) (c.is_name.ensures.holds c.if-is_name.true) in
-    void_reads tokens c.args.from room c.named.result c.requires.input.input void named (subst (λ x. Named ts result_type.Void x c.named.result) (add-one c.args.from) c.named.ensures)
+    let void = c.is_word.ensures.0 c.if-is_word.true in
+    let named = subst (SomeName ts) (add-one c.args.from) (c.is_name.ensures.0 c.if-is_name.true) in
+    void_reads tokens c.args.from room c.name_behind.result c.requires.input.input void named (subst (λ x. Named ts result_type.Void x c.name_behind.result) (add-one c.args.from) c.name_behind.ensures)
 
 pub returns-then-not-begins_typed : goal.returns-then-not-begins_typed
 returns-then-not-begins_typed c = λ room.
     let tokens = c.args.tokens.now in
     let ts = terminals_of tokens in
-    let free = c.begins_typed.ensures.fails c.if-not-begins_typed.true in
+    let free = denied c.begins_typed.ensures c.if-not-begins_typed.true in
     let none : IsName ts c.args.from (codes "void") → SomeName ts (suc c.args.from) → ⊥ = λ void named. elim (c.else-is_word.branch) [
       | else-is_word-via-then-is_word+else-is_name w ↦
-          (let there = subst (SomeName ts) (sym (add-one c.args.from)) named in w.is_name.ensures.fails w.if-is_name.false there.0 there.1)
-      | else-is_word-via-else-is_word w ↦ c.is_word.ensures.fails w.if-is_word.false void
+          (let there = subst (SomeName ts) (sym (add-one c.args.from)) named in denied w.is_name.ensures w.if-is_name.false there)
+      | else-is_word-via-else-is_word w ↦ denied c.is_word.ensures w.if-is_word.false void
     ] in
-    alone_reads tokens c.args.from room c.named-then-not-begins_typed.result result_choice c.requires.input.input c.requires.inside free (void_first c.args.from) (void_absent ts c.args.from none) c.named-then-not-begins_typed.ensures
+    alone_reads tokens c.args.from room c.name_behind-then-not-begins_typed.result result_choice c.requires.input.input c.requires.inside free (void_first c.args.from) (void_absent ts c.args.from none) c.name_behind-then-not-begins_typed.ensures
 
 pub returns-in_err-found : goal.returns-in_err-found
 returns-in_err-found c = λ room.
     let tokens = c.args.tokens.now in
     let ts = terminals_of tokens in
     let p = err_from_is_err_and c.from_residual.result c.from_residual.ensures.1 in
-    let begins = c.begins_typed.ensures.holds c.if-not-begins_typed.false in
+    let begins = c.begins_typed.ensures.0 c.if-not-begins_typed.false in
     rw (p.1, p.2) (choice_unread ts c.args.from room c.in_err-found.field-0.0 result_choice begins.0 begins.1 (omega (arith, length_terminals tokens, c.requires.inside)) (void_out ts c.args.from begins.0) (c.in_err-found.ensures room))
 
 pub returns : goal.returns

@@ -1,5 +1,5 @@
 use Rattle.std.proofs.lemmas.Result.{err_from_is_err_and}
-use Rattle.px_exprs.specs.Inputs.{terminals_of}
+use Rattle.px_lexer.specs.Terminals.{terminals_of}
 use Rattle.px_parser.proofs.TokenSteps.{reading_inside}
 use Rattle.px_parser.proofs.VariableReading.{decl_name_refused, decl_value_refused, decl_read}
 use Rattle.px_parser.proofs.variables.decl.Goals as goal
@@ -9,8 +9,8 @@ returns-in_err-name c =
     let p = err_from_is_err_and c.from_residual.result c.from_residual.ensures.1 in
     λ room. rw (p.1, p.2) (decl_name_refused (terminals_of c.args.tokens.now) c.args.from room _ (c.in_err-name.ensures room))
 
-pub given-requires-clause-inside : goal.given-requires-clause-inside
-given-requires-clause-inside c = reading_inside c.args.tokens.now (c.in_ok-name.ensures 0)
+pub initial_value-requires-clause-inside : goal.initial_value-requires-clause-inside
+initial_value-requires-clause-inside c = reading_inside c.args.tokens.now (c.in_ok-name.ensures 0)
 
 pub returns-in_err-value : goal.returns-in_err-value
 returns-in_err-value c =
@@ -18,4 +18,4 @@ returns-in_err-value c =
     λ room. rw (p.1, p.2) (decl_value_refused (terminals_of c.args.tokens.now) c.args.from _ room _ _ (c.in_ok-name.ensures room) (c.in_err-value.ensures room))
 
 pub returns : goal.returns
-returns c = λ room. decl_read (terminals_of c.args.tokens.now) c.args.from _ _ room _ _ _ (c.in_ok-name.ensures room) (c.in_ok-value.ensures room) c.place.ensures
+returns c = λ room. rw c.unbox.ensures (decl_read (terminals_of c.args.tokens.now) c.args.from _ _ room _ _ _ (c.in_ok-name.ensures room) (c.in_ok-value.ensures room) c.place.ensures)

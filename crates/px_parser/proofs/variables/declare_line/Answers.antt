@@ -1,7 +1,8 @@
 use Rattle.std.proofs.Common.{arith}
 use Rattle.std.proofs.lemmas.Result.{err_from_is_err_and}
-use Rattle.px_exprs.specs.Inputs.{terminals_of}
-use Rattle.px_exprs.proofs.TokenReading.{length_terminals}
+use Rattle.px_lexer.specs.Terminals.{terminals_of}
+use Rattle.px_lexer.proofs.TokenAccess.{length_terminals}
+use Rattle.px_parser.proofs.TokenShapes.{misread}
 use Rattle.px_parser.proofs.TokenSteps.{reading_inside}
 use Rattle.px_parser.proofs.DeclareReading.{declared_inside, line_word_refused, line_declared_refused, line_read}
 use Rattle.px_parser.proofs.variables.declare_line.Goals as goal
@@ -9,10 +10,10 @@ use Rattle.px_parser.proofs.variables.declare_line.Goals as goal
 pub returns-in_err-word : goal.returns-in_err-word
 returns-in_err-word c =
     let p = err_from_is_err_and c.from_residual.result c.from_residual.ensures.1 in
-    λ room. rw (p.1, p.2) (line_word_refused (terminals_of c.args.tokens.now) c.args.from room _ (c.in_err-word.ensures room))
+    λ room. rw (p.1, p.2) (line_word_refused (terminals_of c.args.tokens.now) c.args.from room _ (misread (c.in_err-word.ensures room)))
 
-pub declared-requires-clause-inside : goal.declared-requires-clause-inside
-declared-requires-clause-inside c = reading_inside c.args.tokens.now (c.in_ok-word.ensures 0)
+pub declared_variables-requires-clause-inside : goal.declared_variables-requires-clause-inside
+declared_variables-requires-clause-inside c = reading_inside c.args.tokens.now (c.in_ok-word.ensures 0)
 
 pub returns-in_err-found : goal.returns-in_err-found
 returns-in_err-found c =

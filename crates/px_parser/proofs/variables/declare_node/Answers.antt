@@ -1,6 +1,6 @@
 use Rattle.std.proofs.Common.{ap, ◌∙◌}
 use Rattle.px_tree.specs.declared.statements.StmtForm.TheVariants as statement
-use Rattle.px_exprs.proofs.Codes.{one_place}
+use Rattle.px_lexer.proofs.OneToken.{one_place}
 use Rattle.px_parser.specs.StatementGrammar.{declaration_of, statement_node}
 use Rattle.px_parser.proofs.variables.declare_node.Goals as goal
 

@@ -1,7 +1,8 @@
 use Rattle.std.proofs.Common.{◌-◌, ◌<◌, length, arith}
 use Rattle.std.proofs.lemmas.Result.{err_from_is_err_and}
-use Rattle.px_exprs.specs.Inputs.{terminals_of}
-use Rattle.px_exprs.proofs.TokenReading.{length_terminals}
+use Rattle.px_base.proofs.Facts.{denied}
+use Rattle.px_lexer.specs.Terminals.{terminals_of}
+use Rattle.px_lexer.proofs.TokenAccess.{length_terminals}
 use Rattle.px_parser.proofs.TokenSteps.{reading_inside}
 use Rattle.px_parser.proofs.VariableShapes.{solid_declared}
 use Rattle.px_parser.proofs.DeclareReading.{declared_inside, lines_first_refused, lines_next_refused, one_line, more_lines, lines_read}
@@ -18,13 +19,13 @@ declaration-requires-clause-small c = omega (arith, declared_inside (terminals_o
 pub loop-alloc-init : goal.loop-alloc-init
 loop-alloc-init c = one_line (terminals_of c.args.tokens.now) c.args.from _ _ _ _ _ c.in_ok-first.ensures c.declaration.ensures c.new-tree.ensures c.in_ok-push.ensures.ok
 
-pub declared-requires-in-loop-alloc-clause-inside : goal.declared-requires-in-loop-alloc-clause-inside
-declared-requires-in-loop-alloc-clause-inside c = reading_inside c.args.tokens.now (c.loop-alloc.invariant 0)
+pub declared_variables-requires-in-loop-alloc-clause-inside : goal.declared_variables-requires-in-loop-alloc-clause-inside
+declared_variables-requires-in-loop-alloc-clause-inside c = reading_inside c.args.tokens.now (c.loop-alloc.invariant 0)
 
 pub returns-in_err-next : goal.returns-in_err-next
 returns-in_err-next c =
     let p = err_from_is_err_and c.from_residual-in_err-next.result c.from_residual-in_err-next.ensures.1 in
-    λ room. rw (p.1, p.2) (lines_next_refused (terminals_of c.args.tokens.now) c.args.from _ room _ _ (c.loop-alloc.invariant room) (c.is_dedent.ensures.fails c.loop-alloc-test.true) (c.in_err-next.ensures room))
+    λ room. rw (p.1, p.2) (lines_next_refused (terminals_of c.args.tokens.now) c.args.from _ room _ _ (c.loop-alloc.invariant room) (denied c.is_dedent.ensures c.loop-alloc-test.true) (c.in_err-next.ensures room))
 
 pub declaration-requires-in-loop-alloc-clause-inside : goal.declaration-requires-in-loop-alloc-clause-inside
 declaration-requires-in-loop-alloc-clause-inside c = reading_inside c.args.tokens.now (c.loop-alloc.invariant 0)
@@ -43,4 +44,4 @@ pub loop-alloc-preserved : goal.loop-alloc-preserved
 loop-alloc-preserved c = more_lines (terminals_of c.args.tokens.now) c.args.from _ _ _ _ _ _ c.loop-alloc.invariant c.in_ok-next.ensures c.declaration-in-loop-alloc.ensures c.in_ok-push-2.ensures.ok
 
 pub returns : goal.returns
-returns c = λ room. lines_read (terminals_of c.args.tokens.now) c.args.from _ room _ (c.loop-alloc.invariant room) (c.is_dedent.ensures.holds c.loop-alloc-test.false)
+returns c = λ room. lines_read (terminals_of c.args.tokens.now) c.args.from _ room _ (c.loop-alloc.invariant room) (c.is_dedent.ensures.0 c.loop-alloc-test.false)

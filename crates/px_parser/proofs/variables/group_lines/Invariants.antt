@@ -1,5 +1,5 @@
 use Rattle.std.proofs.Common.{◌-◌, length}
-use Rattle.px_exprs.specs.Inputs.{terminals_of}
+use Rattle.px_lexer.specs.Terminals.{terminals_of}
 use Rattle.px_parser.proofs.DeclareReading.{HasLines}
 use Rattle.px_parser.proofs.variables.group_lines.Given as goal
 

@@ -1,6 +1,6 @@
 use Rattle.std.proofs.Common.{arith}
 use Rattle.std.proofs.lemmas.Result.{err_from_is_err_and}
-use Rattle.px_exprs.proofs.TokenReading.{stands_within}
+use Rattle.px_lexer.proofs.TokenAccess.{stands_within}
 use Rattle.px_parser.proofs.VariableReading.{name_memory}
 use Rattle.px_parser.proofs.variables.variables.Goals as goal
 

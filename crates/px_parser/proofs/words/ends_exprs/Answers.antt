@@ -4,7 +4,7 @@ use Rattle.px_lexer.specs.declared.spelling.Keyword.{Keyword}
 use Rattle.px_lexer.specs.declared.spelling.Operator.{Operator}
 use Rattle.px_lexer.specs.declared.token_list.TokenKind.{TokenKind}
 use Rattle.px_lexer.specs.declared.token_list.TokenKind.TheVariants as kind
-use Rattle.px_exprs.specs.Terminals.{Terminal, HasKind}
+use Rattle.px_lexer.specs.Terminals.{Terminal, HasKind}
 use Rattle.px_exprs.specs.Codes.{kind_code, code_of, code_at}
 use Rattle.px_exprs.proofs.Codes.{code_here}
 use Rattle.px_parser.proofs.words.ends_exprs.Goals as goal

@@ -1,6 +1,7 @@
+use Rattle.px_base.proofs.Facts.{denied}
 use Rattle.px_lexer.specs.declared.token_list.TokenKind.TheVariants as kind
 use Rattle.px_parser.proofs.TokenShapes.{token_answer}
 use Rattle.px_parser.proofs.words.operator.Goals as goal
 
 pub returns : goal.returns
-returns c = token_answer c.args.tokens.now c.args.at (kind.Operator c.args.sign) _ _ c.requires.input (λ e. cc) c.requires.inside c.is_operator.ensures.holds c.is_operator.ensures.fails c.token.ensures
+returns c = token_answer c.args.tokens.now c.args.at (kind.Operator c.args.sign) _ _ c.requires.input (λ e. cc) c.requires.inside c.is_operator.ensures.0 (denied c.is_operator.ensures) c.token.ensures

@@ -1,9 +1,9 @@
 use Rattle.std.proofs.Common.{◌∙◌, ◌-◌, ◌<◌, length, [], not, refl, ap, arith}
 use Rattle.std.proofs.lemmas.Result.{err_from_is_err_and}
-use Rattle.px_exprs.specs.Inputs.{terminals_of}
+use Rattle.px_lexer.specs.Terminals.{terminals_of}
 use Rattle.px_exprs.specs.Parts.{levels_of}
 use Rattle.px_exprs.specs.Codes.{Past}
-use Rattle.px_exprs.proofs.TokenReading.{length_terminals}
+use Rattle.px_lexer.proofs.TokenAccess.{length_terminals}
 use Rattle.px_exprs.proofs.JunctionSteps.{nests_less, run_begun}
 use Rattle.px_exprs.proofs.BinarySteps.{read_tightest, levels_split, fewer_levels, no_levels, tighter_known, some_meant, none_meant, link_inside, first_refused, first_read, no_room_for_links, link_refused, link_on, chain_read, binary_forward}
 use Rattle.px_exprs.proofs.grammar.Grammar.+binary.Goals as goal
@@ -81,4 +81,4 @@ returns g t c =
     let e = levels_split c.args.levels.now (record { ref_ptr = (0, 0); now = [] }) c.in-len1-up.len_at_least in
     let first = some_meant _ _ c.binary_operator.result c.binary_operator.ensures (c.is_none.ensures ∙ ap not c.if-is_none.false) in
     let made = c.node.ensures in
-    chain_read e c.requires.known c.in_ok-first.ensures c.in_ok-room.ensures first.1 c.loop-op.invariant c.in_default-binary_operator.ensures c.in_ok-new.ensures made.1 made.2 (omega (arith, c.max-depth-2.ensures)) refl
+    chain_read e c.requires.known c.in_ok-first.ensures c.in_ok-room.ensures first.1 c.loop-op.invariant c.in_default-binary_operator.ensures c.in_ok-first_tree.ensures made.1 made.2 (omega (arith, c.max-depth-2.ensures)) refl

@@ -1,5 +1,5 @@
 use Rattle.std.proofs.Common.{◌-◌, length}
-use Rattle.px_exprs.specs.Inputs.{terminals_of}
+use Rattle.px_lexer.specs.Terminals.{terminals_of}
 use Rattle.px_exprs.specs.Parts.{levels_of}
 use Rattle.px_exprs.proofs.BinarySteps.{IsLinkRun}
 use Rattle.px_exprs.proofs.grammar.Grammar.+binary.Given as goal

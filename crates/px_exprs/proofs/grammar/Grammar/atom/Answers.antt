@@ -2,11 +2,10 @@ use Rattle.std.proofs.Common.{rules, FitsSigned, refl, ap, subst, ◌∙◌, ari
 use Rattle.std.specs.Int.{w128}
 use Rattle.std.proofs.lemmas.Int.{to_z-of_z}
 use Rattle.std.proofs.lemmas.Result.{err_from_is_err_and}
-use Rattle.px_exprs.specs.Terminals.{HasKind}
+use Rattle.px_lexer.specs.Terminals.{HasKind, terminals_of}
 use Rattle.px_tree.specs.declared.expressions.ExprForm.TheVariants as form
 use Rattle.px_exprs.specs.Grammar.{node as node_of, IsAtom}
-use Rattle.px_exprs.specs.Inputs.{terminals_of}
-use Rattle.px_exprs.proofs.TokenReading.{name_kind}
+use Rattle.px_lexer.proofs.TokenAccess.{name_kind}
 use Rattle.px_exprs.proofs.AtomSteps.{token_read, texts_atom, name_refused, kind_stuck, no_token}
 use Rattle.px_exprs.proofs.grammar.Grammar.atom.Goals as goal
 

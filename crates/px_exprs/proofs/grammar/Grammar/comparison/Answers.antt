@@ -1,9 +1,10 @@
 use Rattle.std.proofs.Common.{refl, arith}
 use Rattle.std.proofs.lemmas.Result.{err_from_is_err_and}
+use Rattle.px_base.proofs.Facts.{denied}
 use Rattle.px_exprs.specs.Grammar.{binary_levels}
-use Rattle.px_exprs.specs.Inputs.{terminals_of}
+use Rattle.px_lexer.specs.Terminals.{terminals_of}
 use Rattle.px_exprs.specs.Parts.{all as all_levels}
-use Rattle.px_exprs.proofs.TokenReading.{length_terminals}
+use Rattle.px_lexer.proofs.TokenAccess.{length_terminals}
 use Rattle.px_exprs.proofs.ComparisonSteps.{one_operand_refused, one_operand_read, no_room_for_comparisons, comparisons_refused, compare_read}
 use Rattle.px_exprs.proofs.grammar.Grammar.comparison.Goals as goal
 
@@ -19,13 +20,13 @@ returns-in_err-first g c =
 
 pub returns-then-not-begins_comparison : goal.returns-then-not-begins_comparison
 unfolding binary_levels
-returns-then-not-begins_comparison g c = one_operand_read c.in_ok-first.ensures (c.begins_comparison.ensures.fails c.if-not-begins_comparison.true)
+returns-then-not-begins_comparison g c = one_operand_read c.in_ok-first.ensures (denied c.begins_comparison.ensures c.if-not-begins_comparison.true)
 
 pub returns-in_err-room : goal.returns-in_err-room
 unfolding binary_levels
 returns-in_err-room g c =
     let p = err_from_is_err_and c.from_residual-in_err-room.result c.from_residual-in_err-room.ensures.1 in
-    rw (p.1, p.2) (no_room_for_comparisons c.in_ok-first.ensures (c.begins_comparison.ensures.holds c.if-not-begins_comparison.false) _ c.in_err-room.ensures)
+    rw (p.1, p.2) (no_room_for_comparisons c.in_ok-first.ensures (c.begins_comparison.ensures.0 c.if-not-begins_comparison.false) _ c.in_err-room.ensures)
 
 pub comparisons-requires-clause-inside : goal.comparisons-requires-clause-inside
 unfolding binary_levels
@@ -34,13 +35,13 @@ comparisons-requires-clause-inside g c =
     omega (arith, reading.within, length_terminals c.args.tokens.now)
 
 pub comparisons-requires-clause-begins : goal.comparisons-requires-clause-begins
-comparisons-requires-clause-begins g c = c.begins_comparison.ensures.holds c.if-not-begins_comparison.false
+comparisons-requires-clause-begins g c = c.begins_comparison.ensures.0 c.if-not-begins_comparison.false
 
 pub returns-in_err-others : goal.returns-in_err-others
 unfolding binary_levels
 returns-in_err-others g c =
     let p = err_from_is_err_and c.from_residual-in_err-others.result c.from_residual-in_err-others.ensures.1 in
-    rw (p.1, p.2) (comparisons_refused c.in_ok-first.ensures (c.begins_comparison.ensures.holds c.if-not-begins_comparison.false) c.in_ok-room.ensures _ c.in_err-others.ensures)
+    rw (p.1, p.2) (comparisons_refused c.in_ok-first.ensures (c.begins_comparison.ensures.0 c.if-not-begins_comparison.false) c.in_ok-room.ensures _ c.in_err-others.ensures)
 
 pub node-requires-clause-small : goal.node-requires-clause-small
 unfolding binary_levels
@@ -52,4 +53,4 @@ pub returns : goal.returns
 unfolding binary_levels
 returns g c =
     let made = c.node.ensures in
-    compare_read c.in_ok-first.ensures c.in_ok-room.ensures c.in_ok-others.ensures c.in_ok-new.ensures made.1 made.2 c.max-depth.ensures refl
+    compare_read c.in_ok-first.ensures c.in_ok-room.ensures c.in_ok-others.ensures c.in_ok-first_tree.ensures made.1 made.2 c.max-depth.ensures refl

@@ -1,8 +1,8 @@
-use Rattle.std.proofs.Common.{Ok, Err, suc, ◌<◌, arith}
+use Rattle.std.proofs.Common.{Ok, Err, ◌∙◌, suc, ◌<◌, arith}
 use Rattle.std.proofs.lemmas.Result.{err_from_is_err_and}
 use Rattle.px_lexer.specs.declared.spelling.Operator.TheVariants as sign
 use Rattle.px_lexer.specs.declared.token_list.TokenKind.TheVariants as kind
-use Rattle.px_exprs.specs.Inputs.{terminals_of}
+use Rattle.px_lexer.specs.Terminals.{terminals_of}
 use Rattle.px_exprs.proofs.Steps.{fails}
 use Rattle.px_exprs.proofs.TokenReading.{goes_on}
 use Rattle.px_exprs.proofs.ListSteps.{key_step, colon_refused, value_refused, entry_read}
@@ -39,4 +39,4 @@ pub returns : goal.returns
 returns g c =
     let less : c.args.room < suc c.args.room = omega arith in
     let reading = c.requires.nests.reads c.args.self.now.alloc c.args.tokens c.args.room c.args.from (Ok c.in_ok-key.key) c.requires.input c.requires.inside less c.in_ok-key.ensures in
-    entry_read reading c.in_ok-value_from.ensures c.in_ok-value.ensures c.max.ensures
+    rw (c.into_inner.ensures ∙ c.in_ok-key_tree.ensures) (entry_read reading c.in_ok-value_from.ensures c.in_ok-value.ensures c.max.ensures)

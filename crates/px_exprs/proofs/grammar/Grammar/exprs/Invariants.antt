@@ -1,6 +1,6 @@
 use Rattle.std.proofs.Common.{◌<◌, ◌≤◌, ◌-◌, length}
 use Rattle.px_exprs.specs.Grammar.{IsExpr}
-use Rattle.px_exprs.specs.Inputs.{terminals_of}
+use Rattle.px_lexer.specs.Terminals.{terminals_of}
 use Rattle.px_exprs.specs.Lists.{Front}
 use Rattle.px_exprs.proofs.grammar.Grammar.exprs.Given as goal
 

@@ -1,9 +1,9 @@
 use Rattle.std.proofs.Common.{◌≡◌, ◌<◌, ◌-◌, ◌+◌, length, arith}
 use Rattle.std.proofs.lemmas.Result.{err_from_is_err_and}
+use Rattle.px_base.proofs.Facts.{denied}
 use Rattle.px_lexer.specs.declared.spelling.Operator.TheVariants as sign
-use Rattle.px_exprs.specs.Terminals.{IsOperator}
+use Rattle.px_lexer.specs.Terminals.{IsOperator, terminals_of}
 use Rattle.px_exprs.specs.Grammar.{IsItem}
-use Rattle.px_exprs.specs.Inputs.{terminals_of}
 use Rattle.px_exprs.proofs.ItemSteps.{item_laws}
 use Rattle.px_exprs.proofs.TrailerSteps.{items_refused, items_last, items_whole}
 use Rattle.px_exprs.proofs.ListReadings.{list_begun, list_on, list_forward}
@@ -20,20 +20,20 @@ returns-in_err-next g c =
     let begun : IsOperator (terminals_of c.args.tokens.now) c.loop-to.to sign.CloseBracket → c.loop-to.to ≡ c.args.from =
     elim c.if-to-from.branch [
       | then-to-from w ↦ (λ h. w.if-to-from.true)
-      | else-to-from+then-not-is_operator w ↦ (λ h. absurd (w.is_operator.ensures.fails w.if-not-is_operator.true h))
+      | else-to-from+then-not-is_operator w ↦ (λ h. absurd (denied w.is_operator.ensures w.if-not-is_operator.true h))
     ] in
     rw (p.1, p.2) (items_refused kept.0 kept.1 begun c.in_err-next.field-0.0 c.in_err-next.ensures)
 
 pub returns-then-is_operator : goal.returns-then-is_operator
 returns-then-is_operator g c =
     let kept = c.loop-to.invariant in
-    let close = c.is_operator-in-loop-to.ensures.holds c.if-is_operator.true in
+    let close = c.is_operator-in-loop-to.ensures.0 c.if-is_operator.true in
     items_last {fs = c.push.new.self} kept.0 kept.1 c.in_ok-next.ensures close c.in_ok-push.ensures.ok c.max-depth.ensures
 
 pub overflow_add-to : goal.overflow_add-to
 overflow_add-to g c =
     let kept = c.loop-to.invariant in
-    let none = c.is_operator-in-loop-to.ensures.fails c.if-is_operator.false in
+    let none = denied c.is_operator-in-loop-to.ensures c.if-is_operator.false in
     let on = list_on c.args.tokens.now c.requires.input {fs = c.push.new.self} kept.0 kept.1 c.in_ok-next.ensures none c.in_ok-push.ensures.ok c.max-depth.ensures in
     omega (arith, on.2, c.requires.input.few)
 
@@ -47,10 +47,10 @@ loop-to-smaller g c =
 pub loop-to-preserved : goal.loop-to-preserved
 loop-to-preserved g c =
     let kept = c.loop-to.invariant in
-    let none = c.is_operator-in-loop-to.ensures.fails c.if-is_operator.false in
+    let none = denied c.is_operator-in-loop-to.ensures c.if-is_operator.false in
     list_on c.args.tokens.now c.requires.input {fs = c.push.new.self} kept.0 kept.1 c.in_ok-next.ensures none c.in_ok-push.ensures.ok c.max-depth.ensures
 
 pub returns : goal.returns
 returns g c =
     let kept = c.loop-to.invariant in
-    items_whole c.args.tokens.now kept.0 kept.1 kept.2 c.if-to-from.false (c.is_operator.ensures.holds c.if-not-is_operator.false)
+    items_whole c.args.tokens.now kept.0 kept.1 kept.2 c.if-to-from.false (c.is_operator.ensures.0 c.if-not-is_operator.false)

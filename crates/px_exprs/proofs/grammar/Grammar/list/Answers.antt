@@ -3,8 +3,9 @@ use Rattle.std.proofs.lemmas.Result.{err_from_is_err_and}
 use Rattle.px_lexer.specs.declared.spelling.Operator.TheVariants as sign
 use Rattle.px_lexer.specs.declared.token_list.TokenKind.TheVariants as kind
 use Rattle.px_exprs.specs.Grammar.{AreExprs}
-use Rattle.px_exprs.specs.Inputs.{terminals_of}
-use Rattle.px_exprs.proofs.TokenReading.{goes_on, length_terminals}
+use Rattle.px_lexer.specs.Terminals.{terminals_of}
+use Rattle.px_exprs.proofs.TokenReading.{goes_on}
+use Rattle.px_lexer.proofs.TokenAccess.{length_terminals}
 use Rattle.px_exprs.proofs.AtomSteps.{enclosed_read, bracket_over, bracket_refused, behind_bracket, way_listed, list_enclosed, list_atom}
 use Rattle.px_exprs.proofs.grammar.Grammar.list.Goals as goal
 

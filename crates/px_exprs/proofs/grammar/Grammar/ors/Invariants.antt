@@ -1,6 +1,6 @@
 use Rattle.std.proofs.Common.{◌-◌, length}
 use Rattle.px_exprs.specs.Codes.{Past}
-use Rattle.px_exprs.specs.Inputs.{terminals_of}
+use Rattle.px_lexer.specs.Terminals.{terminals_of}
 use Rattle.px_exprs.specs.Parts.{IsOrPart}
 use Rattle.px_exprs.proofs.JunctionSteps.{IsRun}
 use Rattle.px_exprs.proofs.grammar.Grammar.ors.Given as goal

@@ -3,8 +3,9 @@ use Rattle.std.proofs.lemmas.Result.{err_from_is_err_and}
 use Rattle.px_lexer.specs.declared.spelling.Operator.TheVariants as sign
 use Rattle.px_lexer.specs.declared.token_list.TokenKind.TheVariants as kind
 use Rattle.px_exprs.specs.Grammar.{AreExprs}
-use Rattle.px_exprs.specs.Inputs.{terminals_of}
-use Rattle.px_exprs.proofs.TokenReading.{goes_on, length_terminals}
+use Rattle.px_lexer.specs.Terminals.{terminals_of}
+use Rattle.px_exprs.proofs.TokenReading.{goes_on}
+use Rattle.px_lexer.proofs.TokenAccess.{length_terminals}
 use Rattle.px_exprs.proofs.AtomSteps.{enclosed_read, bracket_over, bracket_refused, behind_bracket, way_listed, tuple_enclosed, tuple_atom}
 use Rattle.px_exprs.proofs.grammar.Grammar.parentheses.Goals as goal
 
@@ -29,4 +30,4 @@ overflow_add-result-2 g c = omega (arith, c.in_ok-found.ensures.within, length_t
 pub returns : goal.returns
 returns g c =
     let found = c.in_ok-found.ensures in
-    enclosed_read c.args.tokens.now c.requires.input (omega arith) found c.in_ok-room.ensures.1 refl refl (tuple_atom c.requires.begins (behind_bracket found) found.stops c.parenthesized.ensures)
+    enclosed_read c.args.tokens.now c.requires.input (omega arith) found c.in_ok-room.ensures.1 refl refl (tuple_atom c.requires.begins (behind_bracket found) found.stops c.parenthesize.ensures)

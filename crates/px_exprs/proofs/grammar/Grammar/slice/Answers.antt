@@ -1,5 +1,6 @@
-use Rattle.std.proofs.Common.{arith}
+use Rattle.std.proofs.Common.{refl, arith}
 use Rattle.std.proofs.lemmas.Result.{err_from_is_err_and}
+use Rattle.px_base.proofs.Facts.{denied}
 use Rattle.px_lexer.specs.declared.spelling.Operator.TheVariants as sign
 use Rattle.px_lexer.specs.declared.token_list.TokenKind.TheVariants as kind
 use Rattle.px_exprs.proofs.TokenReading.{goes_on}
@@ -19,34 +20,34 @@ returns-in_err-second g c =
 
 pub returns-then-not-is_operator : goal.returns-then-not-is_operator
 returns-then-not-is_operator g c =
-    sliced c.requires.read c.requires.shallow c.requires.behind c.in_ok-second.ensures (c.is_operator.ensures.fails c.if-not-is_operator.true)
-    c.in_ok-from_bound.ensures c.in_ok-to_bound.ensures c.max.ensures
+    sliced c.requires.read c.requires.shallow c.requires.behind c.in_ok-second.ensures (denied c.is_operator.ensures c.if-not-is_operator.true)
+    refl refl c.max.ensures
 
 pub overflow_add-second : goal.overflow_add-second
 overflow_add-second g c =
-    let colon = c.is_operator.ensures.holds c.if-not-is_operator.false in
+    let colon = c.is_operator.ensures.0 c.if-not-is_operator.false in
     omega (arith, goes_on c.args.tokens.now c.in_ok-second.second.to (kind.Operator sign.Colon) c.requires.input colon (omega arith), c.requires.input.few)
 
 pub bound-requires-2-clause-inside : goal.bound-requires-2-clause-inside
 bound-requires-2-clause-inside g c =
-    let colon = c.is_operator.ensures.holds c.if-not-is_operator.false in
+    let colon = c.is_operator.ensures.0 c.if-not-is_operator.false in
     omega (arith, goes_on c.args.tokens.now c.in_ok-second.second.to (kind.Operator sign.Colon) c.requires.input colon (omega arith))
 
 pub returns-in_err-third : goal.returns-in_err-third
 returns-in_err-third g c =
     let p = err_from_is_err_and c.from_residual-in_err-third.result c.from_residual-in_err-third.ensures.1 in
-    let colon = c.is_operator.ensures.holds c.if-not-is_operator.false in
+    let colon = c.is_operator.ensures.0 c.if-not-is_operator.false in
     rw (p.1, p.2) (third_refused c.requires.read c.requires.shallow c.requires.behind c.in_ok-second.ensures colon c.in_err-third.field-0.0 c.in_err-third.ensures)
 
 pub returns-then-is_operator : goal.returns-then-is_operator
 returns-then-is_operator g c =
-    let colon = c.is_operator.ensures.holds c.if-not-is_operator.false in
-    let other = c.is_operator-2.ensures.holds c.if-is_operator.true in
+    let colon = c.is_operator.ensures.0 c.if-not-is_operator.false in
+    let other = c.is_operator-2.ensures.0 c.if-is_operator.true in
     third_stuck c.requires.read c.requires.shallow c.requires.behind c.in_ok-second.ensures colon c.in_ok-third.ensures other
 
 pub returns : goal.returns
 returns g c =
-    let colon = c.is_operator.ensures.holds c.if-not-is_operator.false in
-    let none = c.is_operator-2.ensures.fails c.if-is_operator.false in
+    let colon = c.is_operator.ensures.0 c.if-not-is_operator.false in
+    let none = denied c.is_operator-2.ensures c.if-is_operator.false in
     step_sliced c.requires.read c.requires.shallow c.requires.behind c.in_ok-second.ensures colon c.in_ok-third.ensures none
-    c.in_ok-from_bound.ensures c.in_ok-to_bound.ensures c.in_ok-step.ensures c.max-2.ensures c.max-3.ensures
+    refl refl refl c.max-2.ensures c.max-3.ensures

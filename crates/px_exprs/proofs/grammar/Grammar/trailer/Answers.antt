@@ -2,9 +2,9 @@ use Rattle.std.proofs.Common.{subst, arith}
 use Rattle.std.proofs.lemmas.Result.{err_from_is_err_and}
 use Rattle.px_lexer.specs.declared.spelling.Operator.TheVariants as sign
 use Rattle.px_lexer.specs.declared.token_list.TokenKind.TheVariants as kind
-use Rattle.px_exprs.specs.Terminals.{IsOperator}
-use Rattle.px_exprs.specs.Inputs.{terminals_of}
-use Rattle.px_exprs.proofs.TokenReading.{goes_on, length_terminals}
+use Rattle.px_lexer.specs.Terminals.{IsOperator, terminals_of}
+use Rattle.px_exprs.proofs.TokenReading.{goes_on}
+use Rattle.px_lexer.proofs.TokenAccess.{length_terminals}
 use Rattle.px_exprs.proofs.TrailerSteps.{not_begun, other_sign, no_trailer, call_over, subscript_over, call_refused, subscript_refused, called, subscripted}
 use Rattle.px_exprs.proofs.grammar.Grammar.trailer.Goals as goal
 

@@ -1,5 +1,6 @@
 use Rattle.std.proofs.Common.{◌<◌, ◌-◌, length, arith}
 use Rattle.std.proofs.lemmas.Result.{err_from_is_err_and}
+use Rattle.px_base.proofs.Facts.{denied}
 use Rattle.px_exprs.proofs.TrailerSteps.{begins_past, trailers_begun, trailers_refused, trailers_on, trailers_whole, trailer_forward}
 use Rattle.px_exprs.proofs.grammar.Grammar.trailers.Goals as goal
 
@@ -10,7 +11,7 @@ pub returns-in_err-next : goal.returns-in_err-next
 returns-in_err-next g c =
     let p = err_from_is_err_and c.from_residual-in_err-next.result c.from_residual-in_err-next.ensures.1 in
     let kept = c.loop-found.invariant in
-    rw (p.1, p.2) (trailers_refused kept.0 kept.1 (c.begins_trailer.ensures.holds c.loop-found-test.true) c.in_err-next.field-0.0 c.in_err-next.ensures)
+    rw (p.1, p.2) (trailers_refused kept.0 kept.1 (c.begins_trailer.ensures.0 c.loop-found-test.true) c.in_err-next.field-0.0 c.in_err-next.ensures)
 
 pub loop-found-smaller : goal.loop-found-smaller
 loop-found-smaller g c =
@@ -27,4 +28,4 @@ loop-found-preserved g c =
 pub returns : goal.returns
 returns g c =
     let kept = c.loop-found.invariant in
-    trailers_whole c.args.tokens.now kept.0 kept.1 kept.2 kept.3 c.requires.begins (c.begins_trailer.ensures.fails c.loop-found-test.false)
+    trailers_whole c.args.tokens.now kept.0 kept.1 kept.2 kept.3 c.requires.begins (denied c.begins_trailer.ensures c.loop-found-test.false)

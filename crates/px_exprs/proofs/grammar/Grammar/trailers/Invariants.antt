@@ -1,7 +1,7 @@
 use Rattle.std.proofs.Common.{◌<◌, ◌≤◌, ◌-◌, length}
 use Rattle.px_exprs.specs.Codes.{Past}
 use Rattle.px_exprs.specs.Grammar.{IsTrailer}
-use Rattle.px_exprs.specs.Inputs.{terminals_of}
+use Rattle.px_lexer.specs.Terminals.{terminals_of}
 use Rattle.px_exprs.specs.Lists.{Ran}
 use Rattle.px_exprs.proofs.grammar.Grammar.trailers.Given as goal
 

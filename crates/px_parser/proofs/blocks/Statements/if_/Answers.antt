@@ -1,8 +1,8 @@
 use Rattle.std.proofs.Common.{refl, arith}
 use Rattle.std.proofs.lemmas.Result.{err_from_is_err_and}
 use Rattle.px_lexer.specs.declared.spelling.Keyword.TheVariants as word
-use Rattle.px_exprs.specs.Inputs.{terminals_of}
-use Rattle.px_exprs.proofs.TokenReading.{length_terminals}
+use Rattle.px_lexer.specs.Terminals.{terminals_of}
+use Rattle.px_lexer.proofs.TokenAccess.{length_terminals}
 use Rattle.px_parser.proofs.Steps.{fails}
 use Rattle.px_parser.proofs.CompoundSteps.{step_if_first, step_if_elifs, step_if_otherwise, if_built, number_inside}
 use Rattle.px_parser.proofs.ReadingSteps.{inside_tokens}
@@ -10,7 +10,7 @@ use Rattle.px_parser.proofs.blocks.Statements.if_.Goals as goal
 
 pub returns-in_err-first : goal.returns-in_err-first
 returns-in_err-first g c =
-    let p = err_from_is_err_and c.from_residual.result c.from_residual.ensures.1 in
+    let p = err_from_is_err_and c.from_residual-in_err-first.result c.from_residual-in_err-first.ensures.1 in
     rw (p.1, p.2) (fails (step_if_first (terminals_of c.args.tokens.now) c.args.from c.args.room) c.in_err-first.field-0.0 c.in_err-first.ensures)
 
 pub elifs-requires-clause-inside : goal.elifs-requires-clause-inside

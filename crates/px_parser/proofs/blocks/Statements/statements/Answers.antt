@@ -1,7 +1,8 @@
 use Rattle.std.proofs.Common.{◌-◌, ◌<◌, length, refl, arith}
 use Rattle.std.proofs.lemmas.Result.{err_from_is_err_and}
-use Rattle.px_exprs.specs.Inputs.{terminals_of}
-use Rattle.px_exprs.proofs.TokenReading.{length_terminals}
+use Rattle.px_base.proofs.Facts.{denied}
+use Rattle.px_lexer.specs.Terminals.{terminals_of}
+use Rattle.px_lexer.proofs.TokenAccess.{length_terminals}
 use Rattle.px_parser.proofs.Steps.{fails}
 use Rattle.px_parser.proofs.BlockSteps.{statements_begun, statements_on, statements_read, step_statements_first, step_statements_next, statement_grows}
 use Rattle.px_parser.proofs.ReadingSteps.{inside_tokens}
@@ -21,7 +22,7 @@ statement-requires-in-loop-tree-clause-inside g c = inside_tokens c.args.tokens.
 pub returns-in_err-next : goal.returns-in_err-next
 returns-in_err-next g c =
     let p = err_from_is_err_and c.from_residual-in_err-next.result c.from_residual-in_err-next.ensures.1 in
-    rw (p.1, p.2) (fails (step_statements_next c.loop-tree.invariant (c.is_dedent.ensures.fails c.loop-tree-test.true)) c.in_err-next.field-0.0 c.in_err-next.ensures)
+    rw (p.1, p.2) (fails (step_statements_next c.loop-tree.invariant (denied c.is_dedent.ensures c.loop-tree-test.true)) c.in_err-next.field-0.0 c.in_err-next.ensures)
 
 pub loop-tree-smaller : goal.loop-tree-smaller
 loop-tree-smaller g c =
@@ -33,4 +34,4 @@ pub loop-tree-preserved : goal.loop-tree-preserved
 loop-tree-preserved g c = statements_on _ c.loop-tree.invariant c.in_ok-next.ensures c.in_ok-append-2.ensures
 
 pub returns : goal.returns
-returns g c = statements_read c.loop-tree.invariant (c.is_dedent.ensures.holds c.loop-tree-test.false)
+returns g c = statements_read c.loop-tree.invariant (c.is_dedent.ensures.0 c.loop-tree-test.false)

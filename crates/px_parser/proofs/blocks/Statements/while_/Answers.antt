@@ -1,8 +1,8 @@
 use Rattle.std.proofs.Common.{arith}
 use Rattle.std.proofs.lemmas.Result.{err_from_is_err_and}
 use Rattle.px_lexer.specs.declared.spelling.Keyword.TheVariants as word
-use Rattle.px_exprs.specs.Inputs.{terminals_of}
-use Rattle.px_exprs.proofs.TokenReading.{length_terminals}
+use Rattle.px_lexer.specs.Terminals.{terminals_of}
+use Rattle.px_lexer.proofs.TokenAccess.{length_terminals}
 use Rattle.px_parser.proofs.Steps.{fails}
 use Rattle.px_parser.proofs.CompoundSteps.{step_while, while_built, number_inside}
 use Rattle.px_parser.proofs.blocks.Statements.while_.Goals as goal

@@ -1,0 +1,18 @@
+use Rattle.std.proofs.Common.{refl, subst, MatchOption}
+use Rattle.std.proofs.lemmas.Bool.{false≢true}
+use Rattle.px_lexer.specs.declared.token_list.TokenKind.{TokenKind}
+use Rattle.px_lexer.specs.declared.token_list.TokenKind.TheVariants as kind
+use Rattle.px_lexer.specs.Terminals.{HasKind, terminals_of}
+use Rattle.px_lexer.proofs.TokenAccess.{some_name, name_kind}
+use Rattle.px_lexer.proofs.access.is_name.Goals as goal
+
+pub returns-in-Some-Name : goal.returns-in-Some-Name
+returns-in-Some-Name c =
+    (λ _. some_name (subst (HasKind (terminals_of c.args.tokens.now) c.args.at) c.in-Some-Name.field-0-is c.in-Some-Name.ensures), λ _. refl)
+
+pub returns-in_default-2 : goal.returns-in_default-2
+returns-in_default-2 c =
+    let ts = terminals_of c.args.tokens.now in (
+      λ holds. absurd (false≢true holds),
+      λ h. absurd (subst (λ r. MatchOption r ((k : TokenKind) → HasKind ts c.args.at k → ⊥) (λ k. HasKind ts c.args.at k.now)) c.in_default.is c.kind_at.ensures kind.Name (name_kind h.1)),
+    )

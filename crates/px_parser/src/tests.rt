@@ -1,3 +1,0 @@
-//! Tests of `parse`.
-mod plain;
-mod trees;
