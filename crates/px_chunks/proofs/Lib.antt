@@ -1,0 +1,4 @@
+pub mod Tables
+pub mod Guided
+pub mod TableLaws
+pub mod Cases

@@ -1,0 +1,4 @@
+pub mod Partition
+pub mod Chunks
+pub mod Sequences
+pub mod Views
