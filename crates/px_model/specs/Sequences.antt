@@ -26,23 +26,23 @@ from_end length (negsuc bound) = pos length +ℤ negsuc bound
 
 -- The ends to which a bound is reduced: 0 and the length of a slice that goes up. One that goes down begins at the last item
 -- at most, and ends past the first.
-abbrev pub lowest : ℕ → Bool → ℤ
-lowest length up = if up then pos 0 else negsuc 0
+abbrev pub lowest : Bool → ℤ
+lowest up = if up then pos 0 else negsuc 0
 
 abbrev pub highest : ℕ → Bool → ℤ
 highest length up = if up then pos length else pos length -ℤ pos 1
 
 abbrev pub clipped : ℕ → Bool → ℤ → ℤ
-clipped length up bound = int_max (lowest length up) (int_min (highest length up) (from_end length bound))
+clipped length up bound = int_max (lowest up) (int_min (highest length up) (from_end length bound))
 
 -- where a slice begins, and where it stops, which is past its last item; a bound that is left out is the end on its side
 abbrev pub slice_start : ℕ → Bool → Option ℤ → ℤ
 slice_start length up (Some bound) = clipped length up bound
-slice_start length up None = if up then lowest length up else highest length up
+slice_start length up None = if up then lowest up else highest length up
 
 abbrev pub slice_stop : ℕ → Bool → Option ℤ → ℤ
 slice_stop length up (Some bound) = clipped length up bound
-slice_stop length up None = if up then highest length up else lowest length up
+slice_stop length up None = if up then highest length up else lowest up
 
 -- how far it goes, in the direction of its step
 abbrev pub slice_distance : Bool → ℤ → ℤ → ℕ

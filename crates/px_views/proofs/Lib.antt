@@ -1,0 +1,16 @@
+pub mod Lists
+pub mod Spreads
+pub mod Indices
+pub mod Numbers
+pub mod Slicing
+pub mod Carried
+pub mod Picks
+pub mod Walking
+pub mod Ways
+pub mod RowMajor
+pub mod Filled
+pub mod Extremes
+pub mod Divisors
+pub mod Methods
+pub mod Wholes
+pub mod ViewLaws
