@@ -1,99 +1,89 @@
 //! Rows of C arithmetic: words with spaces between them, the call first and what it gives last.
-ghost use Rattle.std.specs.Prelude.{◌≢◌, IfOk};
+ghost use Rattle.std.specs.Prelude.{◌≢◌};
 ghost use Rattle.px_base.specs.declared.c_types.CType.TheVariants.{Bint};
 ghost use Rattle.px_ctypes.specs.Operators.{IsOperand};
 ghost use Rattle.px_ctypes.specs.Types.{IsInRange};
 
-use crate::rows::{Answer, Unjudged, answered_behind};
+use crate::rows::{Row, Unjudged};
 use px_base::{BinOp, CType, CmpOp, Fault, Kind, Said, UnOp};
 use px_ctypes::{binary, common, compare, convert, from_object, promoted, size_of, unary, wrap};
-use std::alloc::{AllocError, Global};
 
-/// The word of a row.
-fn word(row: &str, at: usize) -> Result<&str, Unjudged> {
-    match row.split(' ').nth(at) {
-        Some(word) => Ok(word),
-        None => Err(Unjudged::NoRow),
+/// Reads a number.
+fn number(row: &mut Row) -> i128 {
+    match row.field().parse::<i128>() {
+        Ok(number) => number,
+        Err(_) => {
+            row.leave(Unjudged::NoRow);
+            0
+        }
     }
 }
 
-/// The number that a word is.
-fn number(row: &str, at: usize) -> Result<i128, Unjudged> {
-    match word(row, at)?.parse::<i128>() {
-        Ok(number) => Ok(number),
-        Err(_) => Err(Unjudged::NoRow),
-    }
+/// The words of the types.
+const TYPES: [(&str, CType); 14] = [
+    ("schar", CType::SChar),
+    ("uchar", CType::UChar),
+    ("char", CType::Char),
+    ("short", CType::Short),
+    ("ushort", CType::UShort),
+    ("int", CType::Int),
+    ("uint", CType::UInt),
+    ("long", CType::Long),
+    ("ulong", CType::ULong),
+    ("longlong", CType::LongLong),
+    ("ulonglong", CType::ULongLong),
+    ("ssize", CType::SsizeT),
+    ("size", CType::SizeT),
+    ("bint", CType::Bint),
+];
+
+/// Reads a type.
+fn c_type(row: &mut Row) -> CType {
+    row.one_of(&TYPES, CType::Int)
 }
 
-/// The type that a word names.
-fn c_type(row: &str, at: usize) -> Result<CType, Unjudged> {
-    match word(row, at)? {
-        "bint" => Ok(CType::Bint),
-        _ => arithmetic_type(row, at),
-    }
-}
-
-/// The type that a word names, but for `bint`.
-fn arithmetic_type(row: &str, at: usize) -> Result<CType, Unjudged>
-    ensures { IfOk result (λ t. t ≢ Bint) }
+/// Reads a type other than `bint`.
+fn arithmetic_type(row: &mut Row) -> CType
+    ensures { result ≢ Bint }
 {
-    match word(row, at)? {
-        "schar" => Ok(CType::SChar),
-        "uchar" => Ok(CType::UChar),
-        "char" => Ok(CType::Char),
-        "short" => Ok(CType::Short),
-        "ushort" => Ok(CType::UShort),
-        "int" => Ok(CType::Int),
-        "uint" => Ok(CType::UInt),
-        "long" => Ok(CType::Long),
-        "ulong" => Ok(CType::ULong),
-        "longlong" => Ok(CType::LongLong),
-        "ulonglong" => Ok(CType::ULongLong),
-        "ssize" => Ok(CType::SsizeT),
-        "size" => Ok(CType::SizeT),
-        _ => Err(Unjudged::NoRow),
+    let t = c_type(row);
+    if t == CType::Bint {
+        row.leave(Unjudged::NoRow);
+        return CType::Int;
+    }
+    t
+}
+
+/// Gives the word of a type.
+fn show_type(row: &mut Row, t: CType) {
+    for (word, other) in TYPES.iter() {
+        if *other == t {
+            row.word(word);
+        }
     }
 }
 
-/// The word that names a type.
-fn type_word(t: CType) -> &'static str {
-    match t {
-        CType::SChar => "schar",
-        CType::UChar => "uchar",
-        CType::Char => "char",
-        CType::Short => "short",
-        CType::UShort => "ushort",
-        CType::Int => "int",
-        CType::UInt => "uint",
-        CType::Long => "long",
-        CType::ULong => "ulong",
-        CType::LongLong => "longlong",
-        CType::ULongLong => "ulonglong",
-        CType::SsizeT => "ssize",
-        CType::SizeT => "size",
-        CType::Bint => "bint",
-    }
-}
-
-/// The number as a value of the type, where it is one.
-fn value(t: CType, n: i128) -> Result<i128, Unjudged>
+/// Reads a value of a type.
+fn value(row: &mut Row, t: CType) -> i128
     requires { t ≢ Bint }
-    ensures { IfOk result (λ n. IsInRange t n) }
+    ensures { IsInRange t result }
 {
-    match from_object(t, n) {
-        Ok(n) => Ok(n),
-        Err(_) => Err(Unjudged::NoRow),
+    let number = number(row);
+    let wrapped = wrap(t, number);
+    if wrapped != number {
+        row.leave(Unjudged::NoRow);
     }
+    wrapped
 }
 
-/// The number as a right operand, where it may be one.
-fn operand(op: BinOp, t: CType, n: i128) -> Result<i128, Unjudged>
+/// Reads a right operand.
+fn operand(row: &mut Row, op: BinOp, t: CType) -> i128
     requires { t ≢ Bint }
-    ensures { IfOk result (λ n. IsOperand op t n) }
+    ensures { IsOperand op t result }
 {
     match op {
-        BinOp::Shl | BinOp::Shr => Ok(n),
-        _ => value(t, n),
+        BinOp::Shl | BinOp::Shr => number(row),
+        _ => value(row, t),
     }
 }
 
@@ -108,151 +98,156 @@ fn fault_word(fault: &Fault) -> &'static str {
     }
 }
 
-/// The word of an outcome: a number, or the row of a fault.
-fn outcome_word(alloc: Global, outcome: Result<i128, Fault>) -> Result<String, AllocError> {
+/// Gives an outcome: a number, or the row of a fault.
+fn outcome(row: &mut Row, outcome: Result<i128, Fault>) {
     match outcome {
-        Ok(n) => format!(in alloc; "{n}"),
-        Err(fault) => String::from_str(alloc, fault_word(&fault)),
+        Ok(number) => row.whole_number(number),
+        Err(fault) => row.word(fault_word(&fault)),
     }
 }
 
-/// The binary operator that a word is.
-fn binary_operator(row: &str, at: usize) -> Result<BinOp, Unjudged> {
-    match word(row, at)? {
-        "+" => Ok(BinOp::Add),
-        "-" => Ok(BinOp::Sub),
-        "*" => Ok(BinOp::Mul),
-        "//" => Ok(BinOp::FloorDiv),
-        "%" => Ok(BinOp::Mod),
-        "<<" => Ok(BinOp::Shl),
-        ">>" => Ok(BinOp::Shr),
-        "&" => Ok(BinOp::BitAnd),
-        "|" => Ok(BinOp::BitOr),
-        "^" => Ok(BinOp::BitXor),
-        _ => Err(Unjudged::NoRow),
-    }
-}
+/// The words of the binary operators.
+const BINARY_OPERATORS: [(&str, BinOp); 10] = [
+    ("+", BinOp::Add),
+    ("-", BinOp::Sub),
+    ("*", BinOp::Mul),
+    ("//", BinOp::FloorDiv),
+    ("%", BinOp::Mod),
+    ("<<", BinOp::Shl),
+    (">>", BinOp::Shr),
+    ("&", BinOp::BitAnd),
+    ("|", BinOp::BitOr),
+    ("^", BinOp::BitXor),
+];
 
-/// Whether a word switches something on.
-fn is_on(row: &str, at: usize) -> Result<bool, Unjudged> {
-    match word(row, at)? {
-        "on" => Ok(true),
-        "off" => Ok(false),
-        _ => Err(Unjudged::NoRow),
-    }
-}
-
-/// The answer of a row of which the words from `at` on say what is given.
-fn answered(alloc: Global, row: &str, at: usize, given: String) -> Result<Answer, Unjudged> {
-    answered_behind(alloc, row, ' ', at, given)
-}
+/// What a word says of a setting.
+const SETTINGS: [(&str, bool); 2] = [("on", true), ("off", false)];
 
 /// `binary TYPE OPERATOR LEFT RIGHT CDIVISION`
-fn binary_row(alloc: Global, row: &str) -> Result<Answer, Unjudged> {
-    let t = arithmetic_type(row, 1)?;
-    let op = binary_operator(row, 2)?;
-    let a = value(t, number(row, 3)?)?;
-    let b = operand(op, t, number(row, 4)?)?;
-    let cdivision = is_on(row, 5)?;
-    let given = outcome_word(alloc, binary(op, t, a, b, cdivision))?;
-    answered(alloc, row, 6, given)
+fn binary_row(row: &mut Row) {
+    let t = arithmetic_type(row);
+    let op = row.one_of(&BINARY_OPERATORS, BinOp::Add);
+    let a = value(row, t);
+    let b = operand(row, op, t);
+    let cdivision = row.one_of(&SETTINGS, false);
+    outcome(row, binary(op, t, a, b, cdivision));
 }
 
-/// The unary operator that a word is.
-fn unary_operator(row: &str, at: usize) -> Result<UnOp, Unjudged> {
-    match word(row, at)? {
-        "+" => Ok(UnOp::Plus),
-        "-" => Ok(UnOp::Minus),
-        "~" => Ok(UnOp::Invert),
-        _ => Err(Unjudged::NoRow),
-    }
-}
+/// The words of the unary operators.
+const UNARY_OPERATORS: [(&str, UnOp); 3] = [
+    ("+", UnOp::Plus),
+    ("-", UnOp::Minus),
+    ("~", UnOp::Invert),
+];
 
 /// `unary TYPE OPERATOR OPERAND`
-fn unary_row(alloc: Global, row: &str) -> Result<Answer, Unjudged> {
-    let t = arithmetic_type(row, 1)?;
-    let op = unary_operator(row, 2)?;
-    let a = value(t, number(row, 3)?)?;
-    let given = outcome_word(alloc, Ok(unary(op, t, a)))?;
-    answered(alloc, row, 4, given)
+fn unary_row(row: &mut Row) {
+    let t = arithmetic_type(row);
+    let op = row.one_of(&UNARY_OPERATORS, UnOp::Plus);
+    let a = value(row, t);
+    row.whole_number(unary(op, t, a));
 }
 
-/// The comparison that a word is.
-fn comparison(row: &str, at: usize) -> Result<CmpOp, Unjudged> {
-    match word(row, at)? {
-        "<" => Ok(CmpOp::Lt),
-        ">" => Ok(CmpOp::Gt),
-        "<=" => Ok(CmpOp::Le),
-        ">=" => Ok(CmpOp::Ge),
-        "==" => Ok(CmpOp::Eq),
-        "!=" => Ok(CmpOp::Ne),
-        _ => Err(Unjudged::NoRow),
-    }
-}
+/// The words of the comparisons.
+const COMPARISONS: [(&str, CmpOp); 6] = [
+    ("<", CmpOp::Lt),
+    (">", CmpOp::Gt),
+    ("<=", CmpOp::Le),
+    (">=", CmpOp::Ge),
+    ("==", CmpOp::Eq),
+    ("!=", CmpOp::Ne),
+];
 
 /// `compare TYPE LEFT OPERATOR TYPE RIGHT`; both operands are converted to their common type.
-fn compare_row(alloc: Global, row: &str) -> Result<Answer, Unjudged> {
-    let t = common(c_type(row, 1)?, c_type(row, 4)?);
-    let a = convert(t, number(row, 2)?);
-    let b = convert(t, number(row, 5)?);
-    let given = i128::from(compare(comparison(row, 3)?, a, b));
-    let given = outcome_word(alloc, Ok(given))?;
-    answered(alloc, row, 6, given)
+fn compare_row(row: &mut Row) {
+    let left = c_type(row);
+    let a = number(row);
+    let op = row.one_of(&COMPARISONS, CmpOp::Lt);
+    let right = c_type(row);
+    let b = number(row);
+    let t = common(left, right);
+    let holds = compare(op, convert(t, a), convert(t, b));
+    row.whole_number(i128::from(holds));
 }
 
 /// `wrap TYPE NUMBER`
-fn wrap_row(alloc: Global, row: &str) -> Result<Answer, Unjudged> {
-    let wrapped = wrap(arithmetic_type(row, 1)?, number(row, 2)?);
-    let given = outcome_word(alloc, Ok(wrapped))?;
-    answered(alloc, row, 3, given)
+fn wrap_row(row: &mut Row) {
+    let t = arithmetic_type(row);
+    let number = number(row);
+    row.whole_number(wrap(t, number));
 }
 
 /// `convert TYPE NUMBER`
-fn convert_row(alloc: Global, row: &str) -> Result<Answer, Unjudged> {
-    let converted = convert(c_type(row, 1)?, number(row, 2)?);
-    let given = outcome_word(alloc, Ok(converted))?;
-    answered(alloc, row, 3, given)
+fn convert_row(row: &mut Row) {
+    let t = c_type(row);
+    let number = number(row);
+    row.whole_number(convert(t, number));
 }
 
 /// `object TYPE NUMBER`
-fn object_row(alloc: Global, row: &str) -> Result<Answer, Unjudged> {
-    let outcome = from_object(arithmetic_type(row, 1)?, number(row, 2)?);
-    let given = outcome_word(alloc, outcome)?;
-    answered(alloc, row, 3, given)
+fn object_row(row: &mut Row) {
+    let t = arithmetic_type(row);
+    let number = number(row);
+    outcome(row, from_object(t, number));
 }
 
 /// `size TYPE`
-fn size_row(alloc: Global, row: &str) -> Result<Answer, Unjudged> {
-    let size = size_of(c_type(row, 1)?) as i128;
-    let given = outcome_word(alloc, Ok(size))?;
-    answered(alloc, row, 2, given)
+fn size_row(row: &mut Row) {
+    let size = size_of(c_type(row));
+    row.whole_number(size as i128);
 }
 
 /// `promoted TYPE`
-fn promoted_row(alloc: Global, row: &str) -> Result<Answer, Unjudged> {
-    let given = String::from_str(alloc, type_word(promoted(c_type(row, 1)?)))?;
-    answered(alloc, row, 2, given)
+fn promoted_row(row: &mut Row) {
+    let t = c_type(row);
+    show_type(row, promoted(t));
 }
 
 /// `common TYPE TYPE`
-fn common_row(alloc: Global, row: &str) -> Result<Answer, Unjudged> {
-    let common = common(c_type(row, 1)?, c_type(row, 2)?);
-    let given = String::from_str(alloc, type_word(common))?;
-    answered(alloc, row, 3, given)
+fn common_row(row: &mut Row) {
+    let left = c_type(row);
+    let right = c_type(row);
+    show_type(row, common(left, right));
 }
 
+/// A call of the arithmetic.
+#[derive(Clone, Copy)]
+enum Call {
+    Binary,
+    Unary,
+    Compare,
+    Wrap,
+    Convert,
+    Object,
+    Size,
+    Promoted,
+    Common,
+}
+
+/// The words of the calls.
+const CALLS: [(&str, Call); 9] = [
+    ("binary", Call::Binary),
+    ("unary", Call::Unary),
+    ("compare", Call::Compare),
+    ("wrap", Call::Wrap),
+    ("convert", Call::Convert),
+    ("object", Call::Object),
+    ("size", Call::Size),
+    ("promoted", Call::Promoted),
+    ("common", Call::Common),
+];
+
 /// A call of the arithmetic, and what it gives.
-pub fn arithmetic_row(alloc: Global, row: &str) -> Result<Answer, Unjudged> {
-    match word(row, 0)? {
-        "binary" => binary_row(alloc, row),
-        "unary" => unary_row(alloc, row),
-        "compare" => compare_row(alloc, row),
-        "wrap" => wrap_row(alloc, row),
-        "convert" => convert_row(alloc, row),
-        "object" => object_row(alloc, row),
-        "size" => size_row(alloc, row),
-        "promoted" => promoted_row(alloc, row),
-        "common" => common_row(alloc, row),
-        _ => Err(Unjudged::NoRow),
+pub fn arithmetic_row(row: &mut Row) {
+    match row.one_of(&CALLS, Call::Size) {
+        Call::Binary => binary_row(row),
+        Call::Unary => unary_row(row),
+        Call::Compare => compare_row(row),
+        Call::Wrap => wrap_row(row),
+        Call::Convert => convert_row(row),
+        Call::Object => object_row(row),
+        Call::Size => size_row(row),
+        Call::Promoted => promoted_row(row),
+        Call::Common => common_row(row),
     }
 }

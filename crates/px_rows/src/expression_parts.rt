@@ -5,34 +5,33 @@ use px_tree::{
     Argument, Axis, BaseType, CompareOp, Comparison, Entry, Expr, ExprForm, Item, Link, Trailer,
     Type,
 };
-use std::alloc::AllocError;
 
 impl Shown for Sequence<Chars> {
-    fn show<'a>(&'a self, parts: &mut Parts<'a>) -> Result<(), AllocError> {
+    fn show<'a>(&'a self, parts: &mut Parts<'a>) {
         show_list(parts, self.as_slice())
     }
 }
 
 impl Shown for i128 {
-    fn show<'a>(&'a self, parts: &mut Parts<'a>) -> Result<(), AllocError> {
+    fn show<'a>(&'a self, parts: &mut Parts<'a>) {
         parts.push(Part::Number(*self))
     }
 }
 
 impl Shown for Expr {
-    fn show<'a>(&'a self, parts: &mut Parts<'a>) -> Result<(), AllocError> {
+    fn show<'a>(&'a self, parts: &mut Parts<'a>) {
         parts.push(Part::Expr(self))
     }
 }
 
 /// Adds the parts of an expression.
-pub fn expr_parts<'a>(parts: &mut Parts<'a>, tree: &'a Expr) -> Result<(), AllocError> {
-    parts.node(tree.number, tree.at)?;
+pub fn expr_parts<'a>(parts: &mut Parts<'a>, tree: &'a Expr) {
+    parts.node(tree.number, tree.at);
     form_parts(parts, &tree.form)
 }
 
 /// Adds the parts of a form of expression.
-fn form_parts<'a>(parts: &mut Parts<'a>, form: &'a ExprForm) -> Result<(), AllocError> {
+fn form_parts<'a>(parts: &mut Parts<'a>, form: &'a ExprForm) {
     match form {
         ExprForm::Name(name) => show_one(parts, "Name(", name),
         ExprForm::Number(number) => show_one(parts, "Number(", number),
@@ -59,15 +58,15 @@ fn form_parts<'a>(parts: &mut Parts<'a>, form: &'a ExprForm) -> Result<(), Alloc
 }
 
 impl Shown for Entry {
-    fn show<'a>(&'a self, parts: &mut Parts<'a>) -> Result<(), AllocError> {
-        self.key.show(parts)?;
-        parts.word(" = ")?;
+    fn show<'a>(&'a self, parts: &mut Parts<'a>) {
+        self.key.show(parts);
+        parts.word(" = ");
         self.value.show(parts)
     }
 }
 
 impl Shown for Trailer {
-    fn show<'a>(&'a self, parts: &mut Parts<'a>) -> Result<(), AllocError> {
+    fn show<'a>(&'a self, parts: &mut Parts<'a>) {
         match self {
             Trailer::Attribute(name) => show_one(parts, "Attribute(", name),
             Trailer::Call(arguments) => show_one(parts, "Call(", arguments),
@@ -77,15 +76,15 @@ impl Shown for Trailer {
 }
 
 impl Shown for Argument {
-    fn show<'a>(&'a self, parts: &mut Parts<'a>) -> Result<(), AllocError> {
-        self.name.show(parts)?;
-        parts.word(" = ")?;
+    fn show<'a>(&'a self, parts: &mut Parts<'a>) {
+        self.name.show(parts);
+        parts.word(" = ");
         self.value.show(parts)
     }
 }
 
 impl Shown for Item {
-    fn show<'a>(&'a self, parts: &mut Parts<'a>) -> Result<(), AllocError> {
+    fn show<'a>(&'a self, parts: &mut Parts<'a>) {
         match self {
             Item::Index(index) => show_one(parts, "Index(", index),
             Item::Slice(from, to, step) => show_three(parts, "Slice(", from, to, step),
@@ -95,34 +94,34 @@ impl Shown for Item {
 }
 
 impl Shown for Link {
-    fn show<'a>(&'a self, parts: &mut Parts<'a>) -> Result<(), AllocError> {
-        self.op.show(parts)?;
-        parts.word(" ")?;
+    fn show<'a>(&'a self, parts: &mut Parts<'a>) {
+        self.op.show(parts);
+        parts.word(" ");
         self.operand.show(parts)
     }
 }
 
 impl Shown for Comparison {
-    fn show<'a>(&'a self, parts: &mut Parts<'a>) -> Result<(), AllocError> {
-        self.op.show(parts)?;
-        parts.word(" ")?;
+    fn show<'a>(&'a self, parts: &mut Parts<'a>) {
+        self.op.show(parts);
+        parts.word(" ");
         self.operand.show(parts)
     }
 }
 
 impl Shown for Type {
-    fn show<'a>(&'a self, parts: &mut Parts<'a>) -> Result<(), AllocError> {
-        parts.node(self.number, self.at)?;
-        self.is_const.show(parts)?;
-        parts.word(" ")?;
-        self.base.show(parts)?;
-        parts.word(" ")?;
+    fn show<'a>(&'a self, parts: &mut Parts<'a>) {
+        parts.node(self.number, self.at);
+        self.is_const.show(parts);
+        parts.word(" ");
+        self.base.show(parts);
+        parts.word(" ");
         show_list(parts, self.axes.as_slice())
     }
 }
 
 impl Shown for BaseType {
-    fn show<'a>(&'a self, parts: &mut Parts<'a>) -> Result<(), AllocError> {
+    fn show<'a>(&'a self, parts: &mut Parts<'a>) {
         match self {
             BaseType::C(number) => show_one(parts, "C(", number),
             BaseType::Object => parts.word("Object"),
@@ -135,7 +134,7 @@ impl Shown for BaseType {
 }
 
 impl Shown for CType {
-    fn show<'a>(&'a self, parts: &mut Parts<'a>) -> Result<(), AllocError> {
+    fn show<'a>(&'a self, parts: &mut Parts<'a>) {
         parts.word(match self {
             CType::SChar => "SChar",
             CType::UChar => "UChar",
@@ -156,7 +155,7 @@ impl Shown for CType {
 }
 
 impl Shown for Axis {
-    fn show<'a>(&'a self, parts: &mut Parts<'a>) -> Result<(), AllocError> {
+    fn show<'a>(&'a self, parts: &mut Parts<'a>) {
         parts.word(match self {
             Axis::Strided => "Strided",
             Axis::Contiguous => "Contiguous",
@@ -165,7 +164,7 @@ impl Shown for Axis {
 }
 
 impl Shown for BinOp {
-    fn show<'a>(&'a self, parts: &mut Parts<'a>) -> Result<(), AllocError> {
+    fn show<'a>(&'a self, parts: &mut Parts<'a>) {
         parts.word(match self {
             BinOp::Add => "Add",
             BinOp::Sub => "Sub",
@@ -182,7 +181,7 @@ impl Shown for BinOp {
 }
 
 impl Shown for UnOp {
-    fn show<'a>(&'a self, parts: &mut Parts<'a>) -> Result<(), AllocError> {
+    fn show<'a>(&'a self, parts: &mut Parts<'a>) {
         parts.word(match self {
             UnOp::Plus => "Plus",
             UnOp::Minus => "Minus",
@@ -192,7 +191,7 @@ impl Shown for UnOp {
 }
 
 impl Shown for CompareOp {
-    fn show<'a>(&'a self, parts: &mut Parts<'a>) -> Result<(), AllocError> {
+    fn show<'a>(&'a self, parts: &mut Parts<'a>) {
         parts.word(match self {
             CompareOp::Less => "Less",
             CompareOp::Greater => "Greater",

@@ -1,8 +1,6 @@
 //! Rows of what the reader of expressions gives.
-use crate::parts::text_of;
-use crate::rows::{
-    Answer, Unjudged, answered, bytes_in, number_in, refusal_text, repeat, spelling,
-};
+use crate::parts::show_tree;
+use crate::rows::Row;
 use px_base::{Bytes, Refusal, Trouble};
 use px_exprs::reader::{expression, expression_within};
 use px_lexer::lexing::tokens;
@@ -18,8 +16,8 @@ const NOWHERE: Trouble = Trouble::Refused(Refusal {
 });
 
 /// The expression from an index of the tokens of a text on, and the index behind it.
-fn read(alloc: Global, text: &[u8], from: usize) -> Result<(Boxed<Expr>, usize), Trouble> {
-    let found = tokens(alloc, text)?;
+fn read(alloc: Global, text: &Bytes, from: usize) -> Result<(Boxed<Expr>, usize), Trouble> {
+    let found = tokens(alloc, text.as_slice())?;
     if from >= found.list.len() {
         return Err(NOWHERE);
     }
@@ -27,62 +25,69 @@ fn read(alloc: Global, text: &[u8], from: usize) -> Result<(Boxed<Expr>, usize),
     Ok((Boxed::new(alloc, tree)?, to))
 }
 
-/// What the tokens of a text give from an index on: the tree and the index behind it, or the refusal.
-fn given(alloc: Global, text: &[u8], from: usize) -> Result<String, Unjudged> {
-    match read(alloc, text, from) {
+/// Gives what the tokens of a text are from an index on: the tree and the index behind it, or the refusal.
+fn show(row: &mut Row, text: &Bytes, from: usize) {
+    match read(row.alloc(), text, from) {
         Ok((tree, to)) => {
-            let text = text_of(alloc, tree.get())?;
-            let text = spelling(alloc, text.as_bytes())?;
-            let text = format!(in alloc; "{text} {to}")?;
-            Ok(text)
+            show_tree(row, tree.get());
+            row.word(" ");
+            row.whole_number(to as i128);
         }
-        Err(trouble) => refusal_text(alloc, trouble),
+        Err(trouble) => row.refusal(trouble),
     }
 }
 
 /// A text, and the tree of the expression that it begins with and the index of the token behind it, or its refusal.
-pub fn expression_row(alloc: Global, row: &str) -> Result<Answer, Unjudged> {
-    let text = bytes_in(alloc, row, 0)?;
-    let given = given(alloc, text.as_slice(), 0)?;
-    answered(alloc, row, 1, given)
+pub fn expression_row(row: &mut Row) {
+    let text = row.bytes();
+    show(row, &text, 0);
 }
 
 /// The index of the first token, the text, and what is read from there on.
-pub fn start_row(alloc: Global, row: &str) -> Result<Answer, Unjudged> {
-    let from = number_in(row, 0)? as usize;
-    let text = bytes_in(alloc, row, 1)?;
-    let given = given(alloc, text.as_slice(), from)?;
-    answered(alloc, row, 2, given)
+pub fn start_row(row: &mut Row) {
+    let from = row.number() as usize;
+    let text = row.bytes();
+    show(row, &text, from);
 }
 
-/// How far the expression at the start of a text goes, or its refusal.
-fn extent(alloc: Global, text: &[u8]) -> Result<String, Unjudged> {
-    match read(alloc, text, 0) {
-        Ok((_, to)) => {
-            let text = format!(in alloc; "ok {to}")?;
-            Ok(text)
+/// Gives how far an expression goes, or its refusal.
+fn show_extent(row: &mut Row, extent: Result<usize, Trouble>) {
+    match extent {
+        Ok(to) => {
+            row.word("ok ");
+            row.whole_number(to as i128);
         }
-        Err(trouble) => refusal_text(alloc, trouble),
+        Err(trouble) => row.refusal(trouble),
     }
 }
 
+/// How far the expression at the start of a text goes.
+fn extent(alloc: Global, text: &Bytes) -> Result<usize, Trouble> {
+    let (_, to) = read(alloc, text, 0)?;
+    Ok(to)
+}
+
 /// A text, and how far the expression that it begins with goes, or its refusal.
-pub fn extent_row(alloc: Global, row: &str) -> Result<Answer, Unjudged> {
-    let text = bytes_in(alloc, row, 0)?;
-    let given = extent(alloc, text.as_slice())?;
-    answered(alloc, row, 1, given)
+pub fn extent_row(row: &mut Row) {
+    let text = row.bytes();
+    let extent = extent(row.alloc(), &text);
+    show_extent(row, extent);
 }
 
 /// Nesting: what opens, and how often; what stands within; what closes as often; what stands behind; and how far it is read.
-pub fn nesting_row(alloc: Global, row: &str) -> Result<Answer, Unjudged> {
-    let count = number_in(row, 1)?;
-    let mut text = Bytes::new(alloc);
-    repeat(alloc, &mut text, row, 0, count)?;
-    repeat(alloc, &mut text, row, 2, 1)?;
-    repeat(alloc, &mut text, row, 3, count)?;
-    repeat(alloc, &mut text, row, 4, 1)?;
-    let given = extent(alloc, text.as_slice())?;
-    answered(alloc, row, 5, given)
+pub fn nesting_row(row: &mut Row) {
+    let opening = row.bytes();
+    let count = row.number();
+    let within = row.bytes();
+    let closing = row.bytes();
+    let behind = row.bytes();
+    let mut text = Bytes::new(row.alloc());
+    row.repeat(&mut text, &opening, count);
+    row.repeat(&mut text, &within, 1);
+    row.repeat(&mut text, &closing, count);
+    row.repeat(&mut text, &behind, 1);
+    let extent = extent(row.alloc(), &text);
+    show_extent(row, extent);
 }
 
 /// How many parts stand behind the first operand of a chain, or behind the atom of a row.
@@ -98,23 +103,24 @@ fn part_count(tree: &Expr) -> usize {
 }
 
 /// A long expression: what stands first, what stands behind it, and how often; then how many parts are read and to before which token.
-pub fn long_row(alloc: Global, row: &str) -> Result<Answer, Unjudged> {
-    let mut text = Bytes::new(alloc);
-    repeat(alloc, &mut text, row, 0, 1)?;
-    repeat(alloc, &mut text, row, 1, number_in(row, 2)?)?;
-    let given = match read(alloc, text.as_slice(), 0) {
+pub fn long_row(row: &mut Row) {
+    let mut text = row.bytes();
+    let part = row.bytes();
+    let count = row.number();
+    row.repeat(&mut text, &part, count);
+    match read(row.alloc(), &text, 0) {
         Ok((tree, to)) => {
             let count = part_count(tree.get());
-            format!(in alloc; "{count} parts, ok {to}")?
+            let text = format!(in row.alloc(); "{count} parts, ok {to}");
+            row.text(text);
         }
-        Err(trouble) => refusal_text(alloc, trouble)?,
-    };
-    answered(alloc, row, 3, given)
+        Err(trouble) => row.refusal(trouble),
+    }
 }
 
 /// The index behind the expression of a text, within a limit of its nesting.
-fn read_within(alloc: Global, text: &[u8], limit: usize) -> Result<usize, Trouble> {
-    let found = tokens(alloc, text)?;
+fn extent_within(alloc: Global, text: &Bytes, limit: usize) -> Result<usize, Trouble> {
+    let found = tokens(alloc, text.as_slice())?;
     if found.list.is_empty() || limit > 64 {
         return Err(NOWHERE);
     }
@@ -124,12 +130,9 @@ fn read_within(alloc: Global, text: &[u8], limit: usize) -> Result<usize, Troubl
 }
 
 /// A text, a limit of its nesting of at most 64, and how far it is read within that limit, or its refusal.
-pub fn limit_row(alloc: Global, row: &str) -> Result<Answer, Unjudged> {
-    let text = bytes_in(alloc, row, 0)?;
-    let limit = number_in(row, 1)? as usize;
-    let given = match read_within(alloc, text.as_slice(), limit) {
-        Ok(to) => format!(in alloc; "ok {to}")?,
-        Err(trouble) => refusal_text(alloc, trouble)?,
-    };
-    answered(alloc, row, 2, given)
+pub fn limit_row(row: &mut Row) {
+    let text = row.bytes();
+    let limit = row.number() as usize;
+    let extent = extent_within(row.alloc(), &text, limit);
+    show_extent(row, extent);
 }

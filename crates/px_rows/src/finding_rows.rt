@@ -1,67 +1,74 @@
 //! Rows of the order of refusals.
-use crate::line_rows::refusal;
-use crate::rows::{Answer, Unjudged, answered, field, number};
-use px_base::{Refusal, earlier, first_in, precedes};
-use std::alloc::{AllocError, Global};
+use crate::line_rows::refusal_with;
+use crate::rows::{Row, Unjudged};
+use px_base::{Refusal, Trouble, earlier, first_in, precedes};
 
-/// A finding as it stands in a row: `ENUMBER LINE:COLUMN`, or `none`.
-fn finding(text: &str) -> Result<Option<Refusal>, Unjudged> {
+/// The refusal that a text of a row is: `ENUMBER LINE:COLUMN`.
+fn refusal_of(row: &mut Row, text: &str) -> Refusal {
+    let (rule, place) = text.split_once(' ').unwrap_or(("", ""));
+    let (line, column) = place.split_once(':').unwrap_or(("", ""));
+    let number = row.number_of(rule.strip_prefix('E').unwrap_or(""));
+    let line = row.number_of(line);
+    let column = row.number_of(column);
+    refusal_with(row, number, line, column)
+}
+
+/// The finding that a text of a row is: a refusal, or `none`.
+fn finding_of(row: &mut Row, text: &str) -> Option<Refusal> {
     if text == "none" {
-        return Ok(None);
+        None
+    } else {
+        Some(refusal_of(row, text))
     }
-    let Some((rule, place)) = text.split_once(' ') else {
-        return Err(Unjudged::NoRow);
-    };
-    let (Some(rule), Some((line, column))) = (rule.strip_prefix('E'), place.split_once(':')) else {
-        return Err(Unjudged::NoRow);
-    };
-    Ok(Some(refusal(number(rule)?, number(line)?, number(column)?)?))
 }
 
-/// The text of a finding in a row.
-fn finding_text(alloc: Global, finding: Option<Refusal>) -> Result<String, AllocError> {
+/// Reads a refusal.
+fn refusal(row: &mut Row) -> Refusal {
+    let field = row.field();
+    refusal_of(row, field)
+}
+
+/// Reads a finding.
+fn finding(row: &mut Row) -> Option<Refusal> {
+    let field = row.field();
+    finding_of(row, field)
+}
+
+/// Gives a finding.
+fn show(row: &mut Row, finding: Option<Refusal>) {
     match finding {
-        Some(
-            Refusal {
-                number,
-                line,
-                column,
-            },
-        ) => format!(in alloc; "E{number} {line}:{column}"),
-        None => String::from_str(alloc, "none"),
-    }
-}
-
-/// A finding of a row that isn't none.
-fn refusal_in(row: &str, at: usize) -> Result<Refusal, Unjudged> {
-    match finding(field(row, at)?)? {
-        Some(refusal) => Ok(refusal),
-        None => Err(Unjudged::NoRow),
+        Some(refusal) => row.refusal(Trouble::Refused(refusal)),
+        None => row.word("none"),
     }
 }
 
 /// Two refusals, and whether the first is the second or comes before it.
-pub fn order_row(alloc: Global, row: &str) -> Result<Answer, Unjudged> {
-    let precedes = precedes(&refusal_in(row, 0)?, &refusal_in(row, 1)?);
-    let given = format!(in alloc; "{precedes}")?;
-    answered(alloc, row, 2, given)
+pub fn order_row(row: &mut Row) {
+    let first = refusal(row);
+    let second = refusal(row);
+    row.word(if precedes(&first, &second) {
+        "true"
+    } else {
+        "false"
+    });
 }
 
 /// Two findings, and the one that comes first.
-pub fn earlier_row(alloc: Global, row: &str) -> Result<Answer, Unjudged> {
-    let earlier = earlier(finding(field(row, 0)?)?, finding(field(row, 1)?)?);
-    let given = finding_text(alloc, earlier)?;
-    answered(alloc, row, 2, given)
+pub fn earlier_row(row: &mut Row) {
+    let first = finding(row);
+    let second = finding(row);
+    show(row, earlier(first, second));
 }
 
 /// Findings, with commas between them, and the one that comes first.
-pub fn first_row(alloc: Global, row: &str) -> Result<Answer, Unjudged> {
-    let mut findings: Vec<Refusal> = Vec::new(alloc);
-    for text in field(row, 0)?.split(',') {
-        if let Some(refusal) = finding(text)? {
-            findings.push(refusal)?;
+pub fn first_row(row: &mut Row) {
+    let mut findings: Vec<Refusal> = Vec::new(row.alloc());
+    for text in row.field().split(',') {
+        if let Some(refusal) = finding_of(row, text) {
+            if findings.push(refusal).is_err() {
+                row.leave(Unjudged::NoMemory);
+            }
         }
     }
-    let given = finding_text(alloc, first_in(findings.as_slice()))?;
-    answered(alloc, row, 1, given)
+    show(row, first_in(findings.as_slice()));
 }

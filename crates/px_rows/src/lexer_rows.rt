@@ -1,96 +1,81 @@
 //! Rows of what the lexer gives.
-use crate::rows::{
-    Answer, Unjudged, answered, bytes_in, number_in, refusal_text, repeat, spelling,
-};
+use crate::rows::Row;
 use px_base::{Bytes, Span};
 use px_lexer::lexing::tokens;
 use px_lexer::{TokenKind, Tokens};
-use std::alloc::{AllocError, Global};
 
-/// Adds the kind of a token, with the content of a string as it is.
-fn show_kind(alloc: Global, out: &mut String, kind: &TokenKind) -> Result<(), AllocError> {
+/// Gives the kind of a token, with the content of a string as it is.
+fn show_kind(row: &mut Row, kind: &TokenKind) {
     match kind {
-        TokenKind::Name => out.push_str("Name"),
+        TokenKind::Name => row.word("Name"),
         TokenKind::Number(number) => {
-            let text = format!(in alloc; "Number({number})")?;
-            out.push_str(text.as_str())
+            row.word("Number(");
+            row.whole_number(*number);
+            row.word(")");
         }
         TokenKind::Text(content) => {
-            out.push_str("Text(")?;
-            for c in content.as_slice() {
-                out.push(*c)?;
-            }
-            out.push_str(")")
+            row.word("Text(");
+            row.spell_characters(content.as_slice());
+            row.word(")");
         }
         TokenKind::Keyword(keyword) => {
-            let text = format!(in alloc; "Keyword({keyword:?})")?;
-            out.push_str(text.as_str())
+            let text = format!(in row.alloc(); "Keyword({keyword:?})");
+            row.text(text);
         }
         TokenKind::Operator(operator) => {
-            let text = format!(in alloc; "Operator({operator:?})")?;
-            out.push_str(text.as_str())
+            let text = format!(in row.alloc(); "Operator({operator:?})");
+            row.text(text);
         }
-        TokenKind::Foreign => out.push_str("Foreign"),
-        TokenKind::Newline => out.push_str("Newline"),
-        TokenKind::Indent => out.push_str("Indent"),
-        TokenKind::Dedent => out.push_str("Dedent"),
-        TokenKind::End => out.push_str("End"),
+        TokenKind::Foreign => row.word("Foreign"),
+        TokenKind::Newline => row.word("Newline"),
+        TokenKind::Indent => row.word("Indent"),
+        TokenKind::Dedent => row.word("Dedent"),
+        TokenKind::End => row.word("End"),
     }
 }
 
-/// Adds a place, and the bytes from one to before another.
-fn show_place(
-    alloc: Global,
-    out: &mut String,
-    at: Span,
-    from: u32,
-    to: u32,
-) -> Result<(), AllocError> {
-    let place = format!(in alloc; " {}:{} {from}-{to}", at.line, at.column)?;
-    out.push_str(place.as_str())
+/// Gives a place, and the bytes from one to before another.
+fn show_place(row: &mut Row, at: Span, from: u32, to: u32) {
+    let text = format!(in row.alloc(); " {}:{} {from}-{to}", at.line, at.column);
+    row.text(text);
 }
 
-/// The tokens, and behind them the leading comment lines.
-fn listed(alloc: Global, found: &Tokens) -> Result<String, AllocError> {
-    let mut out = String::new(alloc);
+/// Gives tokens, and behind them the leading comment lines.
+fn show_tokens(row: &mut Row, found: &Tokens) {
+    let mut is_first = true;
     for token in found.list.as_slice() {
-        if !out.is_empty() {
-            out.push_str(", ")?;
-        }
-        show_kind(alloc, &mut out, &token.kind)?;
-        show_place(alloc, &mut out, token.at, token.from, token.to)?;
+        row.separate(", ", is_first);
+        show_kind(row, &token.kind);
+        show_place(row, token.at, token.from, token.to);
+        is_first = false;
     }
     for comment in found.comments.as_slice() {
-        out.push_str(", Comment")?;
-        show_place(alloc, &mut out, comment.at, comment.from, comment.to)?;
+        row.word(", Comment");
+        show_place(row, comment.at, comment.from, comment.to);
     }
-    Ok(out)
 }
 
-/// What a text gives: its tokens, or the number and place of its refusal.
-fn given(alloc: Global, text: &[u8]) -> Result<String, Unjudged> {
-    match tokens(alloc, text) {
-        Ok(found) => {
-            let text = listed(alloc, &found)?;
-            Ok(spelling(alloc, text.as_bytes())?)
-        }
-        Err(trouble) => refusal_text(alloc, trouble),
+/// Gives what a text is: its tokens, or the number and place of its refusal.
+fn show(row: &mut Row, text: &Bytes) {
+    match tokens(row.alloc(), text.as_slice()) {
+        Ok(found) => show_tokens(row, &found),
+        Err(trouble) => row.refusal(trouble),
     }
 }
 
 /// A text, and its tokens or its refusal.
-pub fn tokens_row(alloc: Global, row: &str) -> Result<Answer, Unjudged> {
-    let text = bytes_in(alloc, row, 0)?;
-    let given = given(alloc, text.as_slice())?;
-    answered(alloc, row, 1, given)
+pub fn tokens_row(row: &mut Row) {
+    let text = row.bytes();
+    show(row, &text);
 }
 
 /// A long text: what stands first, what is then repeated, how often, and what stands last; then what the text gives.
-pub fn long_text_row(alloc: Global, row: &str) -> Result<Answer, Unjudged> {
-    let mut text = Bytes::new(alloc);
-    repeat(alloc, &mut text, row, 0, 1)?;
-    repeat(alloc, &mut text, row, 1, number_in(row, 2)?)?;
-    repeat(alloc, &mut text, row, 3, 1)?;
-    let given = given(alloc, text.as_slice())?;
-    answered(alloc, row, 4, given)
+pub fn long_text_row(row: &mut Row) {
+    let mut text = row.bytes();
+    let part = row.bytes();
+    let count = row.number();
+    let last = row.bytes();
+    row.repeat(&mut text, &part, count);
+    row.repeat(&mut text, &last, 1);
+    show(row, &text);
 }

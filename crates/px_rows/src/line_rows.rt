@@ -1,98 +1,94 @@
 //! Rows of the lines that tell of refusals and faults.
-use crate::rows::{Answer, Unjudged, answered, field, number, number_in, spelled, spelling};
-use px_base::{Chars, Fault, Kind, Refusal, Said, fault_line, refusal_line, utf8};
-use std::alloc::Global;
+use crate::rows::{Row, Unjudged};
+use px_base::{Chars, Fault, Kind, NoMemory, Refusal, Said, fault_line, refusal_line, utf8};
 
 /// A number that fits into 8 bits.
-fn small(number: u64) -> Result<u8, Unjudged> {
+fn small(row: &mut Row, number: u64) -> u8 {
     match u8::try_from(number) {
-        Ok(small) => Ok(small),
-        Err(_) => Err(Unjudged::NoRow),
+        Ok(small) => small,
+        Err(_) => {
+            row.leave(Unjudged::NoRow);
+            0
+        }
     }
 }
 
 /// A number that fits into 32 bits.
-fn middling(number: u64) -> Result<u32, Unjudged> {
+fn middling(row: &mut Row, number: u64) -> u32 {
     match u32::try_from(number) {
-        Ok(middling) => Ok(middling),
-        Err(_) => Err(Unjudged::NoRow),
+        Ok(middling) => middling,
+        Err(_) => {
+            row.leave(Unjudged::NoRow);
+            0
+        }
     }
 }
 
 /// A refusal with this number at this line and column.
-pub fn refusal(number: u64, line: u64, column: u64) -> Result<Refusal, Unjudged> {
-    Ok(Refusal {
-        number: small(number)?,
-        line: middling(line)?,
-        column: middling(column)?,
-    })
+pub fn refusal_with(row: &mut Row, number: u64, line: u64, column: u64) -> Refusal {
+    Refusal {
+        number: small(row, number),
+        line: middling(row, line),
+        column: middling(row, column),
+    }
 }
 
-/// The text in a row of a line of characters.
-fn line_text(alloc: Global, line: &Chars) -> Result<String, Unjudged> {
-    let bytes = utf8(alloc, line)?;
-    Ok(spelling(alloc, bytes.as_slice())?)
+/// Gives a line.
+fn show(row: &mut Row, line: Result<Chars, NoMemory>) {
+    match line {
+        Ok(line) => row.line(utf8(row.alloc(), &line)),
+        Err(NoMemory) => row.leave(Unjudged::NoMemory),
+    }
 }
 
 /// A file, the number, line and column of a refusal, and its line.
-pub fn refusal_row(alloc: Global, row: &str) -> Result<Answer, Unjudged> {
-    let refusal = refusal(number_in(row, 1)?, number_in(row, 2)?, number_in(row, 3)?)?;
-    let line = refusal_line(alloc, field(row, 0)?, &refusal)?;
-    let given = line_text(alloc, &line)?;
-    answered(alloc, row, 4, given)
+pub fn refusal_row(row: &mut Row) {
+    let file = row.field();
+    let number = row.number();
+    let line = row.number();
+    let column = row.number();
+    let refusal = refusal_with(row, number, line, column);
+    show(row, refusal_line(row.alloc(), file, &refusal));
 }
 
-/// The kind of a fault that a word names.
-fn kind(word: &str) -> Result<Kind, Unjudged> {
-    match word {
-        "IndexError" => Ok(Kind::IndexError),
-        "ValueError" => Ok(Kind::ValueError),
-        "ZeroDivisionError" => Ok(Kind::ZeroDivisionError),
-        "OverflowError" => Ok(Kind::OverflowError),
-        "TypeError" => Ok(Kind::TypeError),
-        "KeyError" => Ok(Kind::KeyError),
-        "EOFError" => Ok(Kind::EOFError),
-        "NameError" => Ok(Kind::NameError),
-        "UnboundLocalError" => Ok(Kind::UnboundLocalError),
-        "AttributeError" => Ok(Kind::AttributeError),
-        "RuntimeError" => Ok(Kind::RuntimeError),
-        "RecursionError" => Ok(Kind::RecursionError),
-        "OverlapError" => Ok(Kind::OverlapError),
-        "LimitError" => Ok(Kind::LimitError),
-        _ => Err(Unjudged::NoRow),
-    }
-}
+/// The words of the kinds of faults.
+const KINDS: [(&str, Kind); 14] = [
+    ("IndexError", Kind::IndexError),
+    ("ValueError", Kind::ValueError),
+    ("ZeroDivisionError", Kind::ZeroDivisionError),
+    ("OverflowError", Kind::OverflowError),
+    ("TypeError", Kind::TypeError),
+    ("KeyError", Kind::KeyError),
+    ("EOFError", Kind::EOFError),
+    ("NameError", Kind::NameError),
+    ("UnboundLocalError", Kind::UnboundLocalError),
+    ("AttributeError", Kind::AttributeError),
+    ("RuntimeError", Kind::RuntimeError),
+    ("RecursionError", Kind::RecursionError),
+    ("OverlapError", Kind::OverlapError),
+    ("LimitError", Kind::LimitError),
+];
 
-/// The characters that a text of a row stands for.
-pub fn characters(alloc: Global, text: &str) -> Result<Chars, Unjudged> {
-    let bytes = spelled(alloc, text)?;
-    let Ok(text) = str::from_utf8(bytes.as_slice()) else {
-        return Err(Unjudged::NoRow);
-    };
-    let mut characters = Chars::new(alloc);
-    for c in text.chars() {
-        characters.push(c)?;
-    }
-    Ok(characters)
-}
-
-/// What a fault says: `row NUMBER`, `axis NUMBER` or `own TEXT`.
-fn said(alloc: Global, text: &str) -> Result<Said, Unjudged> {
-    match text.split_once(' ') {
-        Some(("row", row)) => Ok(Said::Row(small(number(row)?)?)),
-        Some(("axis", axis)) => Ok(Said::Axis(small(number(axis)?)?)),
-        Some(("own", own)) => Ok(Said::Own(characters(alloc, own)?)),
-        _ => Err(Unjudged::NoRow),
+/// Reads what a fault says: `row NUMBER`, `axis NUMBER` or `own TEXT`.
+fn said(row: &mut Row) -> Said {
+    let (form, text) = row.field().split_once(' ').unwrap_or(("", ""));
+    match form {
+        "own" => Said::Own(row.characters_of(text)),
+        "axis" => {
+            let number = row.number_of(text);
+            Said::Axis(small(row, number))
+        }
+        _ => {
+            let number = row.number_of(if form == "row" { text } else { "" });
+            Said::Row(small(row, number))
+        }
     }
 }
 
 /// The kind of a fault, what it says, and its line.
-pub fn fault_row(alloc: Global, row: &str) -> Result<Answer, Unjudged> {
-    let fault = Fault {
-        kind: kind(field(row, 0)?)?,
-        said: said(alloc, field(row, 1)?)?,
-    };
-    let line = fault_line(alloc, &fault)?;
-    let given = line_text(alloc, &line)?;
-    answered(alloc, row, 2, given)
+pub fn fault_row(row: &mut Row) {
+    let kind = row.one_of(&KINDS, Kind::IndexError);
+    let said = said(row);
+    let fault = Fault { kind, said };
+    show(row, fault_line(row.alloc(), &fault));
 }

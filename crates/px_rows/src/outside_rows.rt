@@ -1,168 +1,147 @@
 //! Rows of libraries, sources and sinks: what their calls answer, one after another.
-use crate::rows::{
-    Answer, Unjudged, answered, bytes_in, field, numbers_in, size_in, spelled, spelling,
-};
+use crate::rows::{Row, Unjudged};
 use crate::scripted_streams::ScriptedStream;
 use px_base::{
     Bytes, Failed, Files, FolderLibrary, InputSource, Library, LibraryTrouble, MemoryLibrary,
     MemorySink, MemorySource, OutputSink, Sink, SinkTrouble, Source,
 };
-use std::alloc::{AllocError, Global};
 use std::rt;
 
-/// Adds an answer behind others.
-fn add(list: &mut String, answer: &str) -> Result<(), AllocError> {
-    if !list.is_empty() {
-        list.push_str(", ")?;
-    }
-    list.push_str(answer)
-}
-
-/// What a library gave: the bytes between quotes, `none` where it holds no such module, or `failed`.
-fn gift(alloc: Global, given: Result<Option<Bytes>, LibraryTrouble>) -> Result<String, Unjudged> {
-    let text = match given {
+/// Gives what a library answers: the bytes between quotes, `none` where it holds no such module, or `failed`.
+fn show_module(row: &mut Row, answer: Result<Option<Bytes>, LibraryTrouble>) {
+    match answer {
         Ok(Some(bytes)) => {
-            let text = spelling(alloc, bytes.as_slice())?;
-            format!(in alloc; "'{text}'")?
+            row.word("'");
+            row.spell(bytes.as_slice());
+            row.word("'");
         }
-        Ok(None) => String::from_str(alloc, "none")?,
-        Err(LibraryTrouble::Failed) => String::from_str(alloc, "failed")?,
-        Err(LibraryTrouble::NoMemory) => return Err(Unjudged::NoMemory),
-    };
-    Ok(text)
+        Ok(None) => row.word("none"),
+        Err(LibraryTrouble::Failed) => row.word("failed"),
+        Err(LibraryTrouble::NoMemory) => row.leave(Unjudged::NoMemory),
+    }
 }
 
-/// The files in a field, each as `NAME=TEXT`, with commas between them.
-fn files_in(alloc: Global, row: &str, at: usize) -> Result<Files, Unjudged> {
-    let mut files = Files::new(alloc);
-    for file in field(row, at)?.split(',') {
-        let Some((name, text)) = file.split_once('=') else {
-            return Err(Unjudged::NoRow);
-        };
-        files.push((String::from_str(alloc, name)?, spelled(alloc, text)?))?;
+/// Reads files, each as `NAME=TEXT`, with commas between them.
+fn files(row: &mut Row) -> Files {
+    let mut files = Files::new(row.alloc());
+    for file in row.field().split(',') {
+        let (name, text) = file.split_once('=').unwrap_or(("", ""));
+        if name.is_empty() {
+            row.leave(Unjudged::NoRow);
+        }
+        let name = row.owned(name);
+        let bytes = row.spelled(text);
+        let pushed = files.push((name, bytes));
+        row.keep(pushed);
     }
-    Ok(files)
+    files
 }
 
 /// A library in memory: its files; the numbers of its calls that fail; the names that it is asked for; and what it gives.
-pub fn library_row(alloc: Global, row: &str) -> Result<Answer, Unjudged> {
-    let files = files_in(alloc, row, 0)?;
-    let mut library = MemoryLibrary::new(files, numbers_in(alloc, row, 1)?);
-    let mut given = String::new(alloc);
-    for name in field(row, 2)?.split(',') {
-        let gift = gift(alloc, library.module(alloc, name))?;
-        add(&mut given, gift.as_str())?;
+pub fn library_row(row: &mut Row) {
+    let files = files(row);
+    let mut library = MemoryLibrary::new(files, row.numbers());
+    let mut is_first = true;
+    for name in row.field().split(',') {
+        row.separate(", ", is_first);
+        show_module(row, library.module(row.alloc(), name));
+        is_first = false;
     }
-    answered(alloc, row, 3, given)
 }
 
 /// A name that the library of the working folder is asked for, and what it gives.
-pub fn folder_row<R: rt::Files>(alloc: Global, files: &R, row: &str) -> Result<Answer, Unjudged> {
+pub fn folder_row<R: rt::Files>(files: &R, row: &mut Row) {
     let mut library = FolderLibrary::new(files);
-    let given = gift(alloc, library.module(alloc, field(row, 0)?))?;
-    answered(alloc, row, 1, given)
+    let name = row.field();
+    show_module(row, library.module(row.alloc(), name));
 }
 
-/// What a read answers, with the buffer behind it.
-fn read_answer(
-    alloc: Global,
-    read: Result<usize, Failed>,
-    buffer: &[u8],
-) -> Result<String, AllocError> {
-    let left = spelling(alloc, buffer)?;
+/// Gives what a read answers, with the buffer behind it.
+fn show_read(row: &mut Row, read: Result<usize, Failed>, buffer: &[u8]) {
     match read {
-        Ok(count) => format!(in alloc; "{count} {left}"),
-        Err(Failed) => format!(in alloc; "failed {left}"),
+        Ok(count) => row.whole_number(count as i128),
+        Err(Failed) => row.word("failed"),
     }
+    row.word(" ");
+    row.spell(buffer);
 }
 
-/// What a read into this many bytes at the start of a buffer answers.
-fn read_into<S: Source>(
-    alloc: Global,
-    source: &mut S,
-    buffer: &mut [u8],
-    room: u64,
-) -> Result<String, Unjudged> {
-    let room = room as usize;
+/// Reads so many bytes to the start of a buffer, and gives the answer.
+fn read<S: Source>(row: &mut Row, source: &mut S, buffer: &mut [u8], room: usize) {
     if room > buffer.len() {
-        return Err(Unjudged::NoRow);
+        row.leave(Unjudged::NoRow);
+        return;
     }
-    let read = source.read(&mut buffer[..room]);
-    Ok(read_answer(alloc, read, buffer)?)
+    let answer = source.read(&mut buffer[..room]);
+    show_read(row, answer, buffer);
 }
 
-/// What reads into the start of a buffer of five bytes answer, each with the buffer behind it. Field `at` has the room of each read.
-fn reads<S: Source>(
-    alloc: Global,
-    source: &mut S,
-    row: &str,
-    at: usize,
-) -> Result<String, Unjudged> {
-    let mut given = String::new(alloc);
+/// Reads to the start of a buffer of five bytes, and gives each answer with the buffer behind it. The row says the room of each read.
+fn read_all<S: Source>(row: &mut Row, source: &mut S) {
     let mut buffer = *b".....";
-    for room in numbers_in(alloc, row, at)?.as_slice() {
-        let answer = read_into(alloc, source, &mut buffer, *room)?;
-        add(&mut given, answer.as_str())?;
+    let mut is_first = true;
+    for room in row.numbers().as_slice() {
+        row.separate(", ", is_first);
+        read(row, source, &mut buffer, *room as usize);
+        is_first = false;
     }
-    Ok(given)
 }
 
 /// A source in memory: its bytes; the most that a read moves; the numbers of its calls that fail; the reads; and what they answer.
-pub fn source_row(alloc: Global, row: &str) -> Result<Answer, Unjudged> {
-    let failing = numbers_in(alloc, row, 2)?;
-    let mut source = MemorySource::new(bytes_in(alloc, row, 0)?, size_in(row, 1)?, failing);
-    let given = reads(alloc, &mut source, row, 3)?;
-    answered(alloc, row, 4, given)
+pub fn source_row(row: &mut Row) {
+    let bytes = row.bytes();
+    let piece = row.size();
+    let failing = row.numbers();
+    let mut source = MemorySource::new(bytes, piece, failing);
+    read_all(row, &mut source);
 }
 
 /// A stream of these bytes as a source: the reads, and what they answer.
-pub fn input_row(alloc: Global, row: &str) -> Result<Answer, Unjudged> {
-    let bytes = bytes_in(alloc, row, 0)?;
+pub fn input_row(row: &mut Row) {
+    let bytes = row.bytes();
     let mut source = InputSource::new(bytes.as_slice());
-    let given = reads(alloc, &mut source, row, 1)?;
-    answered(alloc, row, 2, given)
+    read_all(row, &mut source);
 }
 
 /// A stream with this script as a source: the reads, and what they answer.
-pub fn scripted_input_row(alloc: Global, row: &str) -> Result<Answer, Unjudged> {
-    let mut source = InputSource::new(ScriptedStream::new(field(row, 0)?)?);
-    let given = reads(alloc, &mut source, row, 1)?;
-    answered(alloc, row, 2, given)
+pub fn scripted_input_row(row: &mut Row) {
+    let mut source = InputSource::new(ScriptedStream::of_row(row));
+    read_all(row, &mut source);
 }
 
-/// What a write answers.
-fn write_answer(alloc: Global, wrote: Result<usize, SinkTrouble>) -> Result<String, AllocError> {
+/// Gives what a write answers.
+fn show_write(row: &mut Row, wrote: Result<usize, SinkTrouble>) {
     match wrote {
-        Ok(count) => format!(in alloc; "{count}"),
-        Err(SinkTrouble::Failed) => String::from_str(alloc, "failed"),
-        Err(SinkTrouble::NoMemory) => String::from_str(alloc, "no memory"),
+        Ok(count) => row.whole_number(count as i128),
+        Err(SinkTrouble::Failed) => row.word("failed"),
+        Err(SinkTrouble::NoMemory) => row.word("no memory"),
     }
 }
 
-/// What writes answer. Field `at` has the pieces, with commas between them.
-fn writes<S: Sink>(alloc: Global, sink: &mut S, row: &str, at: usize) -> Result<String, Unjudged> {
-    let mut given = String::new(alloc);
-    for piece in field(row, at)?.split(',') {
-        let piece = spelled(alloc, piece)?;
-        let answer = write_answer(alloc, sink.write(piece.as_slice()))?;
-        add(&mut given, answer.as_str())?;
+/// Writes pieces, which the row says with commas between them, and gives each answer.
+fn write_all<S: Sink>(row: &mut Row, sink: &mut S) {
+    let mut is_first = true;
+    for piece in row.field().split(',') {
+        row.separate(", ", is_first);
+        let piece = row.spelled(piece);
+        show_write(row, sink.write(piece.as_slice()));
+        is_first = false;
     }
-    Ok(given)
 }
 
 /// A sink in memory: the most that a write moves; the numbers of its calls that fail; the pieces that are written; what the writes answer;
 /// and the bytes that were taken.
-pub fn sink_row(alloc: Global, row: &str) -> Result<Answer, Unjudged> {
-    let mut sink = MemorySink::new(alloc, size_in(row, 0)?, numbers_in(alloc, row, 1)?);
-    let writes = writes(alloc, &mut sink, row, 2)?;
-    let taken = spelling(alloc, sink.bytes().as_slice())?;
-    let given = format!(in alloc; "{writes}|{taken}")?;
-    answered(alloc, row, 3, given)
+pub fn sink_row(row: &mut Row) {
+    let piece = row.size();
+    let failing = row.numbers();
+    let mut sink = MemorySink::new(row.alloc(), piece, failing);
+    write_all(row, &mut sink);
+    row.word("|");
+    row.spell(sink.bytes().as_slice());
 }
 
 /// A stream with this script as a sink: the pieces that are written, and what the writes answer.
-pub fn scripted_output_row(alloc: Global, row: &str) -> Result<Answer, Unjudged> {
-    let mut sink = OutputSink::new(ScriptedStream::new(field(row, 0)?)?);
-    let given = writes(alloc, &mut sink, row, 1)?;
-    answered(alloc, row, 2, given)
+pub fn scripted_output_row(row: &mut Row) {
+    let mut sink = OutputSink::new(ScriptedStream::of_row(row));
+    write_all(row, &mut sink);
 }

@@ -1,7 +1,6 @@
 //! A sink that answers by a script.
-use crate::rows::Unjudged;
+use crate::rows::{Row, Unjudged};
 use px_base::{Sink, SinkTrouble};
-use std::alloc::Global;
 
 /// A sink that answers its first writes by a script, and takes every piece after these whole. In the script a digit is the most bytes
 /// that a write takes, `f` a failure, and `m` want of memory.
@@ -14,21 +13,21 @@ pub struct ScriptedSink<'a> {
 }
 
 impl<'a> ScriptedSink<'a> {
-    /// An empty sink with this script.
-    pub fn new(alloc: Global, script: &'a str) -> Result<ScriptedSink<'a>, Unjudged> {
-        let script = script.as_bytes();
+    /// An empty sink with the script that a row says next.
+    pub fn of_row(row: &mut Row<'a>) -> ScriptedSink<'a> {
+        let script = row.field().as_bytes();
         if !script
             .iter()
             .all(|b| matches!(*b, b'0'..=b'9' | b'f' | b'm'))
         {
-            return Err(Unjudged::NoRow);
+            row.leave(Unjudged::NoRow);
         }
-        Ok(ScriptedSink {
+        ScriptedSink {
             script,
             calls: 0,
-            bytes: Vec::new(alloc),
+            bytes: Vec::new(row.alloc()),
             faults: 0,
-        })
+        }
     }
 
     /// What was taken.

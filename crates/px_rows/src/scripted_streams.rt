@@ -1,7 +1,7 @@
 //! A stream that answers by a script.
 ghost use Rattle.std.specs.Prelude.{◌≤◌, IfOk};
 
-use crate::rows::Unjudged;
+use crate::rows::{Row, Unjudged};
 use std::io;
 use std::io::{ErrorKind, Read, Write};
 
@@ -13,17 +13,17 @@ pub struct ScriptedStream<'a> {
 }
 
 impl<'a> ScriptedStream<'a> {
-    /// A stream with this script.
-    pub fn new(script: &'a str) -> Result<ScriptedStream<'a>, Unjudged> {
-        let script = script.as_bytes();
+    /// A stream with the script that a row says next, which isn't empty.
+    pub fn of_row(row: &mut Row<'a>) -> ScriptedStream<'a> {
+        let script = row.field().as_bytes();
         if script.is_empty()
             || !script
                 .iter()
                 .all(|b| matches!(*b, b'0'..=b'9' | b'i' | b'm' | b'b'))
         {
-            return Err(Unjudged::NoRow);
+            row.leave(Unjudged::NoRow);
         }
-        Ok(ScriptedStream { script })
+        ScriptedStream { script }
     }
 
     /// The answer of the next call.

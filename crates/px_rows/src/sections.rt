@@ -12,78 +12,160 @@ use crate::outside_rows::{
     folder_row, input_row, library_row, scripted_input_row, scripted_output_row, sink_row,
     source_row,
 };
-use crate::rows::{Answer, Unjudged};
+use crate::rows::{Row, Unjudged};
 use crate::value_rows::{name_row, sequence_row, status_row};
-use std::alloc::Global;
 use std::rt;
 
-/// Whether a section is known.
-pub fn is_known<R: rt::Files>(alloc: Global, files: &R, section: &str) -> bool {
-    !matches!(judged(alloc, files, section, ""), Err(Unjudged::NoSection))
+/// A section of rows, which all make the same calls.
+#[derive(Clone, Copy, PartialEq, Eq)]
+pub enum Section {
+    Tokens,
+    LongTexts,
+    Expressions,
+    Starts,
+    Nesting,
+    LongExpressions,
+    Limits,
+    Extents,
+    Modules,
+    NestedBlocks,
+    NestedExpressions,
+    Verdicts,
+    Commands,
+    Runs,
+    ScriptedCommands,
+    StarvedCommands,
+    Libraries,
+    Folders,
+    Sources,
+    Inputs,
+    ScriptedInputs,
+    Sinks,
+    ScriptedOutputs,
+    Arithmetic,
+    Refusals,
+    Faults,
+    Orders,
+    EarlierFindings,
+    FirstFindings,
+    Sequences,
+    FunctionNames,
+    Statuses,
 }
 
-/// Whether a line of a section is a row.
-pub fn is_row(section: &str, line: &str) -> bool {
-    match section {
-        "arithmetic" => !line.is_empty(),
-        _ => line.contains('|'),
+/// The names of the sections.
+const SECTIONS: [(&str, Section); 32] = [
+    ("tokens", Section::Tokens),
+    ("long texts", Section::LongTexts),
+    ("expressions", Section::Expressions),
+    ("starts", Section::Starts),
+    ("nesting", Section::Nesting),
+    ("long expressions", Section::LongExpressions),
+    ("limits", Section::Limits),
+    ("extents", Section::Extents),
+    ("modules", Section::Modules),
+    ("nested blocks", Section::NestedBlocks),
+    ("nested expressions", Section::NestedExpressions),
+    ("verdicts", Section::Verdicts),
+    ("commands", Section::Commands),
+    ("runs", Section::Runs),
+    ("scripted commands", Section::ScriptedCommands),
+    ("starved commands", Section::StarvedCommands),
+    ("libraries", Section::Libraries),
+    ("folders", Section::Folders),
+    ("sources", Section::Sources),
+    ("inputs", Section::Inputs),
+    ("scripted inputs", Section::ScriptedInputs),
+    ("sinks", Section::Sinks),
+    ("scripted outputs", Section::ScriptedOutputs),
+    ("arithmetic", Section::Arithmetic),
+    ("refusals", Section::Refusals),
+    ("faults", Section::Faults),
+    ("orders", Section::Orders),
+    ("earlier findings", Section::EarlierFindings),
+    ("first findings", Section::FirstFindings),
+    ("sequences", Section::Sequences),
+    ("function names", Section::FunctionNames),
+    ("statuses", Section::Statuses),
+];
+
+/// The section with a name.
+pub fn section_named(name: &str) -> Option<Section> {
+    for (known, section) in SECTIONS.iter() {
+        if *known == name {
+            return Some(*section);
+        }
+    }
+    None
+}
+
+/// The character between the fields of the rows of a section.
+pub fn separator(section: Section) -> char {
+    if section == Section::Arithmetic {
+        ' '
+    } else {
+        '|'
     }
 }
 
-/// What a row of a section gives, and what it says.
-pub fn judged<R: rt::Files>(
-    alloc: Global,
-    files: &R,
-    section: &str,
-    row: &str,
-) -> Result<Answer, Unjudged> {
+/// Whether a line of a section is a row.
+pub fn is_row(section: Section, line: &str) -> bool {
+    if section == Section::Arithmetic {
+        !line.is_empty()
+    } else {
+        line.contains('|')
+    }
+}
+
+/// Makes the calls of a row of a section.
+pub fn judge<R: rt::Files>(files: &R, section: Section, row: &mut Row) {
     match section {
-        "tokens" => tokens_row(alloc, row),
-        "long texts" => long_text_row(alloc, row),
-        "expressions" => expression_row(alloc, row),
-        "starts" => start_row(alloc, row),
-        "nesting" => nesting_row(alloc, row),
-        "long expressions" => long_row(alloc, row),
-        "limits" => limit_row(alloc, row),
-        "extents" => extent_row(alloc, row),
-        "modules" => module_row(alloc, row),
-        "nested blocks" => blocks_row(alloc, row),
-        "nested expressions" => nested_row(alloc, row),
-        "verdicts" => verdict_row(alloc, row),
-        "folders" => folder_row(alloc, files, row),
-        _ => judged_call(alloc, section, row),
+        Section::Folders => folder_row(files, row),
+        Section::Tokens => tokens_row(row),
+        Section::LongTexts => long_text_row(row),
+        Section::Expressions => expression_row(row),
+        Section::Starts => start_row(row),
+        Section::Nesting => nesting_row(row),
+        Section::LongExpressions => long_row(row),
+        Section::Limits => limit_row(row),
+        Section::Extents => extent_row(row),
+        Section::Modules => module_row(row),
+        Section::NestedBlocks => blocks_row(row),
+        Section::NestedExpressions => nested_row(row),
+        Section::Verdicts => verdict_row(row),
+        _ => judge_call(section, row),
     }
 }
 
 /// The same of the sections of commands and of the outside in memory, and of those below.
-fn judged_call(alloc: Global, section: &str, row: &str) -> Result<Answer, Unjudged> {
+fn judge_call(section: Section, row: &mut Row) {
     match section {
-        "commands" => command_row(alloc, row),
-        "runs" => run_row(alloc, row),
-        "scripted commands" => scripted_row(alloc, row),
-        "starved commands" => starved_row(alloc, row),
-        "libraries" => library_row(alloc, row),
-        "sources" => source_row(alloc, row),
-        "inputs" => input_row(alloc, row),
-        "scripted inputs" => scripted_input_row(alloc, row),
-        "sinks" => sink_row(alloc, row),
-        "scripted outputs" => scripted_output_row(alloc, row),
-        _ => judged_value(alloc, section, row),
+        Section::Commands => command_row(row),
+        Section::Runs => run_row(row),
+        Section::ScriptedCommands => scripted_row(row),
+        Section::StarvedCommands => starved_row(row),
+        Section::Libraries => library_row(row),
+        Section::Sources => source_row(row),
+        Section::Inputs => input_row(row),
+        Section::ScriptedInputs => scripted_input_row(row),
+        Section::Sinks => sink_row(row),
+        Section::ScriptedOutputs => scripted_output_row(row),
+        _ => judge_value(section, row),
     }
 }
 
 /// The same of the sections of values.
-fn judged_value(alloc: Global, section: &str, row: &str) -> Result<Answer, Unjudged> {
+fn judge_value(section: Section, row: &mut Row) {
     match section {
-        "arithmetic" => arithmetic_row(alloc, row),
-        "refusals" => refusal_row(alloc, row),
-        "faults" => fault_row(alloc, row),
-        "orders" => order_row(alloc, row),
-        "earlier findings" => earlier_row(alloc, row),
-        "first findings" => first_row(alloc, row),
-        "sequences" => sequence_row(alloc, row),
-        "function names" => name_row(alloc, row),
-        "statuses" => status_row(alloc, row),
-        _ => Err(Unjudged::NoSection),
+        Section::Arithmetic => arithmetic_row(row),
+        Section::Refusals => refusal_row(row),
+        Section::Faults => fault_row(row),
+        Section::Orders => order_row(row),
+        Section::EarlierFindings => earlier_row(row),
+        Section::FirstFindings => first_row(row),
+        Section::Sequences => sequence_row(row),
+        Section::FunctionNames => name_row(row),
+        Section::Statuses => status_row(row),
+        _ => row.leave(Unjudged::NoRow),
     }
 }

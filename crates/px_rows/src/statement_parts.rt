@@ -1,22 +1,21 @@
 //! The parts of the text of a statement.
 use crate::parts::{Part, Parts, Shown, show_one, show_three, show_two};
 use px_tree::{Arm, Declaration, Declarator, Stmt, StmtForm};
-use std::alloc::AllocError;
 
 impl Shown for Stmt {
-    fn show<'a>(&'a self, parts: &mut Parts<'a>) -> Result<(), AllocError> {
+    fn show<'a>(&'a self, parts: &mut Parts<'a>) {
         parts.push(Part::Stmt(self))
     }
 }
 
 /// Adds the parts of a statement.
-pub fn stmt_parts<'a>(parts: &mut Parts<'a>, tree: &'a Stmt) -> Result<(), AllocError> {
-    parts.node(tree.number, tree.at)?;
+pub fn stmt_parts<'a>(parts: &mut Parts<'a>, tree: &'a Stmt) {
+    parts.node(tree.number, tree.at);
     form_parts(parts, &tree.form)
 }
 
 /// Adds the parts of a form of statement.
-fn form_parts<'a>(parts: &mut Parts<'a>, form: &'a StmtForm) -> Result<(), AllocError> {
+fn form_parts<'a>(parts: &mut Parts<'a>, form: &'a StmtForm) {
     match form {
         StmtForm::Assign(targets, value) => show_two(parts, "Assign(", targets, value),
         StmtForm::Augment(target, op, value) => show_three(parts, "Augment(", target, op, value),
@@ -37,28 +36,28 @@ fn form_parts<'a>(parts: &mut Parts<'a>, form: &'a StmtForm) -> Result<(), Alloc
 }
 
 impl Shown for Arm {
-    fn show<'a>(&'a self, parts: &mut Parts<'a>) -> Result<(), AllocError> {
-        parts.node(self.number, self.at)?;
-        self.test.show(parts)?;
-        parts.word(" ")?;
+    fn show<'a>(&'a self, parts: &mut Parts<'a>) {
+        parts.node(self.number, self.at);
+        self.test.show(parts);
+        parts.word(" ");
         self.block.show(parts)
     }
 }
 
 impl Shown for Declaration {
-    fn show<'a>(&'a self, parts: &mut Parts<'a>) -> Result<(), AllocError> {
-        parts.node(self.number, self.at)?;
-        self.typing.show(parts)?;
-        parts.word(" ")?;
+    fn show<'a>(&'a self, parts: &mut Parts<'a>) {
+        parts.node(self.number, self.at);
+        self.typing.show(parts);
+        parts.word(" ");
         self.names.show(parts)
     }
 }
 
 impl Shown for Declarator {
-    fn show<'a>(&'a self, parts: &mut Parts<'a>) -> Result<(), AllocError> {
-        parts.node(self.number, self.at)?;
-        self.name.show(parts)?;
-        parts.word(" = ")?;
+    fn show<'a>(&'a self, parts: &mut Parts<'a>) {
+        parts.node(self.number, self.at);
+        self.name.show(parts);
+        parts.word(" = ");
         self.value.show(parts)
     }
 }
