@@ -1,0 +1,14 @@
+pub mod Arguments
+pub mod Comments
+pub mod Contexts
+pub mod Declarations
+pub mod Imports
+pub mod Kept
+pub mod Laws
+pub mod Meanings
+pub mod NamedModule
+pub mod Rules
+pub mod Steps
+pub mod Tables
+pub mod Uses
+pub mod UsesKept

@@ -1,0 +1,28 @@
+use Rattle.std.proofs.Common.{ap, ◌∙◌}
+use Rattle.px_walk.specs.Forms as form
+use Rattle.px_walk.specs.Roses.{head_of}
+use Rattle.px_walk.proofs.ExprEquations.{expr_is, entry_is, argument_is, link_is, comparison_is}
+use Rattle.px_walk.proofs.StmtEquations.{stmt_is, arm_is}
+use Rattle.px_walk.proofs.Shown.{shown}
+use Rattle.px_walk.proofs.tree_node.TreeNode.head.Goals as goal
+
+pub returns-in-Stmt : goal.returns-in-Stmt
+returns-in-Stmt c = c.stmt_head.ensures ∙ shown head_of c.in-Stmt.is (stmt_is c.in-Stmt.s.now)
+
+pub returns-in-Arm : goal.returns-in-Arm
+returns-in-Arm c = shown head_of c.in-Arm.is (arm_is c.in-Arm.field-0.now)
+
+pub returns-in-Expr : goal.returns-in-Expr
+returns-in-Expr c = c.expr_head.ensures ∙ shown head_of c.in-Expr.is (expr_is c.in-Expr.e.now)
+
+pub returns-in-Entry : goal.returns-in-Entry
+returns-in-Entry c = shown head_of c.in-Entry.is (entry_is c.in-Entry.field-0.now)
+
+pub returns-in-Argument : goal.returns-in-Argument
+returns-in-Argument c = ap form.Argument c.chars_of-in-Argument.ensures ∙ shown head_of c.in-Argument.is (argument_is c.in-Argument.argument.now)
+
+pub returns-in-Link : goal.returns-in-Link
+returns-in-Link c = shown head_of c.in-Link.is (link_is c.in-Link.link.now)
+
+pub returns-in-Comparison : goal.returns-in-Comparison
+returns-in-Comparison c = shown head_of c.in-Comparison.is (comparison_is c.in-Comparison.comparison.now)
