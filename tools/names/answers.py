@@ -2,9 +2,9 @@
 the token at which this reader stops, which may be too early, and depths of nesting aren't counted."""
 import sys
 
-from names.lexer import Refused, tokens_of
+from modules.lexer import Refused, tokens_of
+from modules.statements import ModuleReader
 from names.rules import Judge
-from names.statements import ModuleReader
 
 # A nesting of expressions takes about twenty calls a level.
 sys.setrecursionlimit(10_000)

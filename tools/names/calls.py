@@ -1,8 +1,8 @@
 """Numbers of arguments and keywords of calls."""
 from typing import List, NamedTuple, Optional, Set
 
-from names.lexer import SIZE_LIMIT
-from names.tree import Call, Expr, Literal
+from modules.lexer import SIZE_LIMIT
+from modules.tree import Call, Expr, Literal
 
 PRANGE_KEYWORDS = {"nogil", "schedule", "chunksize", "num_threads"}
 ARRAY_NEEDED = {"shape", "itemsize", "format"}

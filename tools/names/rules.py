@@ -1,11 +1,7 @@
 """The rules of names. Each is judged by itself over the whole module, and gives the numbers and places where it is
 broken."""
-from names import calls
-from names.calls import Wanted
-from names.directives import DECORATED, is_comment_known
-from names.lexer import Place
-from names.scopes import FunctionScope, ModuleScope, blocks_of, declared_in, is_import_known, statements_in
-from names.tree import (
+from modules.lexer import Place
+from modules.tree import (
     Assign,
     Attribute,
     Augment,
@@ -29,6 +25,10 @@ from names.tree import (
     Tuple_,
     While,
 )
+from names import calls
+from names.calls import Wanted
+from names.directives import DECORATED, is_comment_known
+from names.scopes import FunctionScope, ModuleScope, blocks_of, declared_in, is_import_known, statements_in
 
 RAISED_KINDS = set(
     "IndexError ValueError ZeroDivisionError OverflowError TypeError KeyError EOFError NameError UnboundLocalError "

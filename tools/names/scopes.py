@@ -1,7 +1,7 @@
 """What a name means at a place: the locals of a function, the names of the module, functions, imports and builtins."""
 from typing import Dict, List, NamedTuple, Set
 
-from names.tree import Assign, Augment, Declare, For, Function, Global, If, Import, Name, Tuple_, While, With
+from modules.tree import Assign, Augment, Declare, For, Function, Global, If, Import, Name, Tuple_, While, With
 
 BUILTINS = set("print input len int str repr bool list tuple abs min max range".split())
 

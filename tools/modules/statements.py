@@ -1,7 +1,7 @@
 """The reader of modules and statements: one function for each rule of the grammar."""
 from grammar.tokens import AUGMENTED
-from names.expressions import ExpressionReader
-from names.tree import (
+from modules.expressions import ExpressionReader
+from modules.tree import (
     Assign,
     Augment,
     Declaration,
@@ -102,18 +102,22 @@ class ModuleReader(ExpressionReader):
             self.takes("inline")
             end = self.behind_typed_name(("(",))
             if end is None and self.takes("void"):
-                end = self.at
-            self.at = self.at if end is None else end
+                gives = "void"
+            else:
+                gives = self.type_before(end)
             is_plain = False
         else:
-            is_plain = True
+            is_plain, gives = True, None
         name = self.name()
         self.expect("(")
         parameters = self.listed(self.parameter, ")")
-        if not is_plain:
-            self.clauses()
+        is_noexcept, lock = (False, "") if is_plain else self.clauses()
         self.expect(":")
-        return Function(place, decorators, name, parameters, self.block())
+        return Function(place, decorators, name, gives, parameters, is_noexcept, lock, self.block())
+
+    def type_before(self, end):
+        """Takes the type before the name at this index, if one stands there."""
+        return self.type_to(end) if end is not None and end > self.at else None
 
     def decorator(self):
         """A decorator."""
@@ -121,11 +125,12 @@ class ModuleReader(ExpressionReader):
         name_place = self.here.place
         names = self.dotted()
         self.expect("(")
-        if not self.takes("True"):
+        is_true = self.takes("True")
+        if not is_true:
             self.expect("False")
         self.expect(")")
         self.expect("<NEWLINE>")
-        return Decorator(place, names, name_place)
+        return Decorator(place, names, name_place, is_true)
 
     def parameter(self):
         """A parameter."""
@@ -133,24 +138,24 @@ class ModuleReader(ExpressionReader):
         end = self.behind_typed_name((",", ")", "not"))
         if end is None:
             self.refuse()
-        self.at = end
+        typing = self.type_before(end)
         name = self.name()
-        if self.takes("not"):
+        is_not_none = self.takes("not")
+        if is_not_none:
             self.expect("None")
-        return Parameter(place, name)
+        return Parameter(place, name, typing, is_not_none)
 
     def clauses(self):
-        """What a header says of exceptions and of the lock."""
-        if self.takes("except"):
+        """What a header says of exceptions and of the lock: whether it has `noexcept`, and a word of the lock."""
+        is_noexcept = self.takes("noexcept")
+        if not is_noexcept and self.takes("except"):
             if not self.takes("*"):
                 self.takes("?")
                 self.expr()
-        else:
-            self.takes("noexcept")
         if self.takes("with"):
             self.expect("gil")
-        else:
-            self.takes("nogil")
+            return is_noexcept, "gil"
+        return is_noexcept, "nogil" if self.takes("nogil") else ""
 
     # Blocks
 
@@ -219,10 +224,11 @@ class ModuleReader(ExpressionReader):
     def with_(self):
         """A block with or without the lock."""
         place = self.take().place
-        if not self.takes("gil"):
+        is_gil = self.takes("gil")
+        if not is_gil:
             self.expect("nogil")
         self.expect(":")
-        return With(place, self.block())
+        return With(place, is_gil, self.block())
 
     # Declarations
 
@@ -230,26 +236,27 @@ class ModuleReader(ExpressionReader):
         """Declared variables."""
         place = self.take().place
         if not self.takes(":"):
-            return Declare(place, self.declared_line())
+            return Declare(place, self.declared_line(place))
         self.expect("<NEWLINE>")
         self.expect("<INDENT>")
         declarations = []
         while not declarations or not self.takes("<DEDENT>"):
-            declarations.extend(self.declared_line())
+            declarations.extend(self.declared_line(self.here.place))
         return Declare(place, declarations)
 
-    def declared_line(self):
-        """Variables of one type."""
+    def declared_line(self, typing_place):
+        """Variables of one type, on a line with this place."""
         ends = self.behind_type(self.at)
         ends = [end for end in ends if self.kind(end) == "NAME" and self.spelled(end + 1) in ("=", ",", "<NEWLINE>")]
         if not ends:
             self.refuse()
-        self.at = ends[0]
+        typing = self.type_to(ends[0])
         declarations = []
         while not declarations or self.takes(","):
             place = self.here.place
             name = self.name()
-            declarations.append(Declaration(place, name, self.expr() if self.takes("=") else None))
+            value = self.expr() if self.takes("=") else None
+            declarations.append(Declaration(place, name, value, typing, typing_place))
         self.expect("<NEWLINE>")
         return declarations
 
@@ -259,7 +266,7 @@ class ModuleReader(ExpressionReader):
         """A simple statement."""
         word = self.spelled(self.at)
         if word in ("pass", "break", "continue"):
-            return Plain(self.take().place)
+            return Plain(self.here.place, self.take().spelling)
         if word == "return":
             place = self.take().place
             return Return(place, None if self.spelled(self.at) in (";", "<NEWLINE>") else self.exprs(";", "<NEWLINE>"))
@@ -287,8 +294,8 @@ class ModuleReader(ExpressionReader):
         value = self.exprs("=", ";", "<NEWLINE>")
         if self.spelled(self.at) in AUGMENTED:
             target = self.target(value)
-            self.take()
-            return Augment(place, target, self.expr())
+            operator = self.take().spelling.removesuffix("=")
+            return Augment(place, target, operator, self.expr())
         while self.sees("="):
             targets.append(self.targets(value))
             self.take()

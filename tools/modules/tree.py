@@ -1,9 +1,9 @@
-"""Trees of modules, as far as the rules of names look at them. The place of a node is that of its first token; a single
-expression in parentheses is that expression, at its own place."""
+"""Trees of modules. The place of a node is that of its first token; a single expression in parentheses is that expression, at its
+own place."""
 from dataclasses import dataclass, field
-from typing import List, Optional, Tuple
+from typing import List, Optional, Tuple, Union
 
-from names.lexer import Comment, Place
+from modules.lexer import Comment, Place
 
 
 @dataclass
@@ -11,6 +11,16 @@ class Node:
     """Something with a place."""
 
     place: Place
+
+
+@dataclass
+class TypeName:
+    """A written type: its base in one spelling, with `_` for spaces, whether it is const, and for each axis of a view whether it
+    is `::1`. Without axes it is no view."""
+
+    base: str
+    is_const: bool
+    axes: List[bool]
 
 
 @dataclass
@@ -29,10 +39,18 @@ class Name(Expr):
 
 @dataclass
 class Literal(Expr):
-    """A number, a text, or one of the words True, False and None; other kinds have no word."""
+    """One of the words True, False and None, or a text, or a number; other kinds have no word, no text and no number."""
 
     word: str = ""
     text: Optional[str] = None
+    number: Optional[int] = None
+
+
+@dataclass
+class Sizeof(Expr):
+    """The size of a type."""
+
+    typing: TypeName
 
 
 @dataclass
@@ -40,6 +58,49 @@ class Several(Expr):
     """Expressions that an operator or a display has as parts, without a rule of their own."""
 
     parts: List[Expr]
+
+
+@dataclass
+class Chain(Several):
+    """Operands with binary operators of one level between them."""
+
+    operators: List[str]
+
+
+@dataclass
+class Logical(Several):
+    """Operands with `and`, or with `or`, between them."""
+
+    word: str
+
+
+@dataclass
+class Unary(Several):
+    """An operator before its operand: `+`, `-`, `~` or `not`."""
+
+    sign: str
+
+
+@dataclass
+class Cast(Several):
+    """A cast of its operand."""
+
+    typing: TypeName
+
+
+@dataclass
+class Conditional(Several):
+    """A value, the test for it, and the other value."""
+
+
+@dataclass
+class ListDisplay(Several):
+    """A list in square brackets."""
+
+
+@dataclass
+class DictDisplay(Several):
+    """Keys, each with its value behind it."""
 
 
 @dataclass
@@ -65,10 +126,49 @@ class Attribute:
 
 
 @dataclass
-class Subscript:
-    """All expressions in a subscript."""
+class Slice:
+    """A slice: where it begins and ends, and its step, each where it is written."""
 
-    parts: List[Expr]
+    start: Optional[Expr]
+    stop: Optional[Expr]
+    step: Optional[Expr]
+
+    def parts(self) -> List[Expr]:
+        """What is written."""
+        return [part for part in (self.start, self.stop, self.step) if part is not None]
+
+
+@dataclass
+class Ellipsis_:
+    """`...`"""
+
+    def parts(self) -> List[Expr]:
+        """Nothing."""
+        return []
+
+
+@dataclass
+class Index:
+    """An index, or `None`."""
+
+    value: Expr
+
+    def parts(self) -> List[Expr]:
+        """The index."""
+        return [self.value]
+
+
+@dataclass
+class Subscript:
+    """The items of a subscript, and whether a comma stands behind the last one."""
+
+    items: list
+    has_comma: bool
+
+    @property
+    def parts(self) -> List[Expr]:
+        """All expressions in it."""
+        return [part for item in self.items for part in item.parts()]
 
 
 @dataclass
@@ -95,6 +195,8 @@ class Statement(Node):
 class Plain(Statement):
     """A statement without parts: pass, break, continue."""
 
+    word: str
+
 
 @dataclass
 class Assign(Statement):
@@ -109,6 +211,7 @@ class Augment(Statement):
     """A target that is changed by an operator."""
 
     target: Expr
+    operator: str
     value: Expr
 
 
@@ -136,10 +239,12 @@ class Global(Statement):
 
 @dataclass
 class Declaration(Node):
-    """A variable of a `cdef`, with its first value."""
+    """A variable of a `cdef`, with its first value, its type, and the place of the line that has the type."""
 
     name: str
     value: Optional[Expr]
+    typing: TypeName
+    typing_place: Place
 
 
 @dataclass
@@ -177,31 +282,39 @@ class For(Statement):
 class With(Statement):
     """A block with or without the lock."""
 
+    is_gil: bool
     block: list
 
 
 @dataclass
 class Decorator(Node):
-    """A decorator, with the place of its first name."""
+    """A decorator, with the place of its first name, and what it sets."""
 
     names: List[str]
     name_place: Place
+    is_true: bool
 
 
 @dataclass
 class Parameter(Node):
-    """A parameter; its type comes first."""
+    """A parameter; its type comes first, where it is written."""
 
     name: str
+    typing: Optional[TypeName]
+    is_not_none: bool
 
 
 @dataclass
 class Function(Node):
-    """A function. What its header says of exceptions and the lock has no part in the rules of names."""
+    """A function. It gives a type, `void`, or what isn't written; `lock` is `nogil`, `gil` or nothing. The values behind `except`
+    are not kept, since nothing in them is tested."""
 
     decorators: List[Decorator]
     name: str
+    gives: Union[TypeName, str, None]
     parameters: List[Parameter]
+    is_noexcept: bool
+    lock: str
     block: list
 
 

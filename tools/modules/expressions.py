@@ -1,11 +1,43 @@
 """The reader of expressions and types: one function for each rule of the grammar."""
-from names.lexer import Refused
-from names.tree import Attribute, Call, Compare, Expr, Literal, Name, Row, Several, Subscript, Tuple_
+from modules.lexer import Refused
+from modules.tree import (
+    Attribute,
+    Call,
+    Cast,
+    Chain,
+    Compare,
+    Conditional,
+    DictDisplay,
+    Ellipsis_,
+    Expr,
+    Index,
+    ListDisplay,
+    Literal,
+    Logical,
+    Name,
+    Row,
+    Sizeof,
+    Slice,
+    Subscript,
+    Tuple_,
+    TypeName,
+    Unary,
+)
 
-CHAINS = [("or",), ("and",)]
+WORDS = ["or", "and"]
 OPERATORS = [("|",), ("^",), ("&",), ("<<", ">>"), ("+", "-"), ("*", "//", "%")]
 COMPARISONS = {"<", ">", "<=", ">=", "==", "!=", "in", "is"}
 PLAIN_TYPES = {"bint", "object", "Py_ssize_t", "size_t", "list", "dict", "tuple", "str"}
+
+
+def base_of(words) -> str:
+    """The one spelling of the base of a type: a sign is written where it changes the type, `int` where nothing else is."""
+    rest = [word for word in words if word not in ("signed", "unsigned")]
+    if len(rest) > 1 and rest[-1] == "int":
+        rest.pop()
+    is_signed_char = rest == ["char"] and "signed" in words
+    signs = ["unsigned"] if "unsigned" in words else ["signed"] if is_signed_char else []
+    return "_".join(signs + (rest or ["int"]))
 
 
 class ExpressionReader:
@@ -108,12 +140,21 @@ class ExpressionReader:
         ends = [self.behind_axes(end) for end in self.behind_base(start)]
         return [end for end in ends if end is not None]
 
-    def take_type(self, *followers):
+    def take_type(self, *followers) -> TypeName:
         """Takes a type that one of these words follows."""
         ends = [end for end in self.behind_type(self.at) if self.spelled(end) in followers]
         if not ends:
             self.refuse()
-        self.at = ends[0]
+        return self.type_to(ends[0])
+
+    def type_to(self, end) -> TypeName:
+        """Takes the type that ends before this index."""
+        words = [self.spelled(at) for at in range(self.at, end)]
+        self.at = end
+        is_const = words[0] == "const"
+        axes = words[words.index("[") + 1 : -1] if "[" in words else []
+        base = words[is_const : words.index("[") if axes else None]
+        return TypeName(base_of(base), is_const, ["::" in axis for axis in "".join(axes).split(",") if axis])
 
     def behind_typed_name(self, followers):
         """The index of the name in `[type] NAME` with one of these words behind it."""
@@ -143,28 +184,23 @@ class ExpressionReader:
             return first
         test = self.chain(0)
         self.expect("else")
-        return Several(place, [first, test, self.expr()])
+        return Conditional(place, [first, test, self.expr()])
 
     def chain(self, level):
         """`or` and `and`."""
-        if level == len(CHAINS):
+        if level == len(WORDS):
             return self.not_()
-        return self.joined(CHAINS[level], lambda: self.chain(level + 1))
-
-    def joined(self, words, part):
-        """Parts with these words between them."""
         place = self.here.place
-        parts = [part()]
-        while self.spelled(self.at) in words:
-            self.take()
-            parts.append(part())
-        return parts[0] if len(parts) == 1 else Several(place, parts)
+        parts = [self.chain(level + 1)]
+        while self.takes(WORDS[level]):
+            parts.append(self.chain(level + 1))
+        return parts[0] if len(parts) == 1 else Logical(place, parts, WORDS[level])
 
     def not_(self):
         """`not`."""
         place = self.here.place
         if self.takes("not"):
-            return Several(place, [self.not_()])
+            return Unary(place, [self.not_()], "not")
         return self.compare()
 
     def compare(self):
@@ -183,18 +219,23 @@ class ExpressionReader:
         """Binary operators."""
         if level == len(OPERATORS):
             return self.unary()
-        return self.joined(OPERATORS[level], lambda: self.operator(level + 1))
+        place = self.here.place
+        parts, operators = [self.operator(level + 1)], []
+        while self.spelled(self.at) in OPERATORS[level]:
+            operators.append(self.take().spelling)
+            parts.append(self.operator(level + 1))
+        return Chain(place, parts, operators) if operators else parts[0]
 
     def unary(self):
         """Unary operators and casts."""
         place = self.here.place
         if self.spelled(self.at) in ("+", "-", "~"):
-            self.take()
-            return Several(place, [self.unary()])
+            sign = self.take().spelling
+            return Unary(place, [self.unary()], sign)
         if self.takes("<"):
-            self.take_type(">")
+            typing = self.take_type(">")
             self.expect(">")
-            return Several(place, [self.unary()])
+            return Cast(place, [self.unary()], typing)
         return self.primary()
 
     def primary(self):
@@ -211,7 +252,7 @@ class ExpressionReader:
                 if not items:
                     self.at -= 1
                     self.refuse()
-                trailers.append(Subscript([part for item in items for part in item]))
+                trailers.append(Subscript(items, self.spelled(self.at - 2) == ","))
             else:
                 return Row(place, head, trailers) if trailers else head
 
@@ -233,16 +274,14 @@ class ExpressionReader:
         return keyword, self.expr()
 
     def item(self):
-        """The expressions of an item of a subscript."""
+        """An item of a subscript."""
         if self.takes("..."):
-            return []
-        parts = [] if self.sees(":") else [self.expr()]
-        colons = 0
-        while colons < 2 and self.takes(":"):
-            colons += 1
-            if self.spelled(self.at) not in (":", ",", "]"):
-                parts.append(self.expr())
-        return parts
+            return Ellipsis_()
+        parts = [None if self.sees(":") else self.expr()]
+        while len(parts) < 3 and self.takes(":"):
+            is_written = self.spelled(self.at) not in (":", ",", "]")
+            parts.append(self.expr() if is_written else None)
+        return Index(parts[0]) if len(parts) == 1 else Slice(*parts, *[None] * (3 - len(parts)))
 
     def pair(self):
         """A key and a value."""
@@ -256,8 +295,7 @@ class ExpressionReader:
         if token.kind == "NAME":
             return Name(token.place, self.take().spelling)
         if token.kind == "NUMBER":
-            self.take()
-            return Literal(token.place)
+            return Literal(token.place, number=int(self.take().spelling, 0))
         if token.kind == "STRING":
             said = ""
             while self.here.kind == "STRING":
@@ -267,9 +305,9 @@ class ExpressionReader:
             return Literal(token.place, word=self.take().spelling)
         if self.takes("sizeof"):
             self.expect("(")
-            self.take_type(")")
+            typing = self.take_type(")")
             self.expect(")")
-            return Literal(token.place)
+            return Sizeof(token.place, typing)
         return self.display(token.place)
 
     def display(self, place) -> Expr:
@@ -282,10 +320,11 @@ class ExpressionReader:
             inner.is_bracketed = True
             return inner
         if self.takes("["):
-            inner = Several(place, []) if self.sees("]") else Several(place, [self.exprs("]")])
+            inner = [] if self.sees("]") else [self.exprs("]")]
             self.expect("]")
-            return inner
+            is_list = inner and isinstance(inner[0], Tuple_) and not inner[0].is_bracketed
+            return ListDisplay(place, inner[0].parts if is_list else inner)
         if self.takes("{"):
             pairs = self.listed(self.pair, "}")
-            return Several(place, [part for pair in pairs for part in pair])
+            return DictDisplay(place, [part for pair in pairs for part in pair])
         return self.refuse()
