@@ -1,7 +1,8 @@
--- A text has one answer at most.
-use Rattle.std.proofs.Common.{◌≡◌, ℕ, List, [], ◌∷◌, refl, sym, ap, ◌∙◌, subst}
+-- A text has one answer of a command at most.
+use Rattle.std.proofs.Common.{◌≡◌, ◌⊎◌, inl, inr, ℕ, List, [], ◌∷◌, Some, None, refl, sym, ap, ◌∙◌, subst}
 use Rattle.px_base.specs.declared.refusals.Span.{Span}
 use Rattle.px_base.specs.declared.refusals.Refusal.{Refusal}
+use Rattle.px_base.specs.Findings.{IsFirst}
 use Rattle.px_base.proofs.FirstFindings.{comes_first-antisymmetric}
 use Rattle.px_lexer.specs.declared.token_list.Token.{Token}
 use Rattle.px_lexer.specs.declared.token_list.Comment.{Comment}
@@ -11,13 +12,19 @@ use Rattle.px_tree.specs.declared.modules.Function.{Function}
 use Rattle.px_tree.specs.declared.modules.ModuleItem.{ModuleItem}
 use Rattle.px_tree.specs.declared.modules.ModuleItem.TheVariants as module_item
 use Rattle.px_tree.specs.declared.modules.Module.{Module}
+use Rattle.px_lexer.specs.Refusals.{BreaksText}
 use Rattle.px_lexer.specs.Terminals.{terminals_of}
 use Rattle.px_parser.specs.Laws.{ParsingIsUnique}
 use Rattle.px_parser.specs.Parsing.{IsModuleOf, IsModuleRefused}
 use Rattle.px_cli.specs.FirstMeaning.{Values, no_values, DoInTurn, IsMain, Prints}
 use Rattle.px_cli.specs.FirstRefusals.{place_of, StopsAt, IsMainItem, IsCallItem, BeginsWithMain, IsUnbuiltAt, IsUnbuilt, unbuilt_refusal}
-use Rattle.px_cli.specs.Phases.{AreTokensOf, IsModuleText, IsRun, IsTextRefused}
+use Rattle.px_names.specs.Rules.{BreaksNames}
+use Rattle.px_cli.specs.declared.words.Command.{Command}
+use Rattle.px_cli.specs.declared.words.Command.TheVariants.{Check, Run}
+use Rattle.px_cli.specs.CheckedForms.{IsUnchecked}
+use Rattle.px_cli.specs.Phases.{AreTokensOf, IsModuleText, IsNotTaken, IsAccepted, IsTextRefused, Writes}
 use Rattle.px_cli.specs.Laws.{AnswersAreUnique}
+use Rattle.px_cli.proofs.CheckLemmas.{checked_or_unchecked, unchecked_once}
 use Rattle.px_cli.proofs.SameValues.{turns_same, stops_or_does, stops_same}
 
 -- Where a module is refused, by its items
@@ -87,6 +94,42 @@ prints_or_stands header does call (StandsAt.behind again same (EndsAt.other_next
 prints_or_refused : {m : Module} {output : List ℕ} {refusal : Refusal} → Prints m output → IsUnbuilt m refusal → ⊥
 prints_or_refused {m} p r = prints_or_stands {call = module_item.Statement p.call} p.header p.does p.called (subst (λ xs. StandsAt m.at xs r.at) p.items (by_items r.stands))
 
+-- What a command makes of a module: one output, or one refusal
+
+checks_once : {m : Module} {refusal other : Refusal} → IsUnchecked m refusal → IsUnchecked m other → refusal ≡ other
+checks_once a b = a.given ∙ ap unbuilt_refusal (unchecked_once a.stands b.stands) ∙ sym b.given
+
+written_once : {output other : List ℕ} (m : Module) (command : Command) → Writes command m output → Writes command m other → output ≡ other
+written_once m Check a b = a.1 ∙ sym b.1
+written_once m Run a b = printed_once a b
+
+not_taken_once : {refusal other : Refusal} (m : Module) (command : Command) → IsNotTaken command m refusal → IsNotTaken command m other → refusal ≡ other
+not_taken_once m Check a b = checks_once a b
+not_taken_once m Run a b = unbuilt_once a b
+
+written_or_not : (m : Module) (output : List ℕ) (refusal : Refusal) (command : Command) → Writes command m output → IsNotTaken command m refusal → ⊥
+written_or_not m output refusal Check a b = checked_or_unchecked a.0 b.stands
+written_or_not m output refusal Run a b = prints_or_refused a b
+
+first_once : (P : Refusal → Type 0) (refusal other : Refusal) → IsFirst P (Some refusal) → IsFirst P (Some other) → refusal ≡ other
+first_once P refusal other p q = comes_first-antisymmetric refusal other (p.1 other q.0) (q.1 refusal p.0)
+
+-- Why a module is refused: for its names, or for what isn't built
+
+data IsRefusedModule (command : Command) (m : Module) (refusal : Refusal) : Type 0 where
+  by_names : IsFirst (BreaksNames m) (Some refusal) → IsRefusedModule command m refusal
+  by_form : IsFirst (BreaksNames m) None → IsNotTaken command m refusal → IsRefusedModule command m refusal
+
+module_refused_once : {m : Module} {refusal other : Refusal} (command : Command) → IsRefusedModule command m refusal → IsRefusedModule command m other → refusal ≡ other
+module_refused_once {m} {refusal} {other} command (IsRefusedModule.by_names p) (IsRefusedModule.by_names q) = first_once (BreaksNames m) refusal other p q
+module_refused_once {refusal = refusal} command (IsRefusedModule.by_names p) (IsRefusedModule.by_form clean q) = absurd (clean refusal p.0)
+module_refused_once {other = other} command (IsRefusedModule.by_form clean p) (IsRefusedModule.by_names q) = absurd (clean other q.0)
+module_refused_once {m} command (IsRefusedModule.by_form clean p) (IsRefusedModule.by_form again q) = not_taken_once m command p q
+
+written_or_refused : {m : Module} {refusal : Refusal} (output : List ℕ) (command : Command) → IsFirst (BreaksNames m) None → Writes command m output → IsRefusedModule command m refusal → ⊥
+written_or_refused {refusal = refusal} output command clean writes (IsRefusedModule.by_names p) = clean refusal p.0
+written_or_refused {m} {refusal} output command clean writes (IsRefusedModule.by_form again p) = written_or_not m output refusal command writes p
+
 -- What a text is: one list of tokens, and one module
 
 abbrev tokens_of : List ℕ → List Token → List Comment → Tokens
@@ -102,40 +145,56 @@ module_same {n = n} parsing a b = parsing.parsed a.tokens _ n a.parsed (subst (�
 
 -- Why a text is refused
 
--- a text with tokens is refused by the grammar, or for what isn't built
-data IsRefusedBehind (text : List ℕ) (refusal : Refusal) : Type 0 where
-  by_grammar : (tokens : Tokens) → AreTokensOf text tokens → IsModuleRefused (terminals_of tokens) refusal → IsRefusedBehind text refusal
-  by_form : (m : Module) → IsModuleText text m → IsUnbuilt m refusal → IsRefusedBehind text refusal
+-- a text with tokens is refused by the grammar, or its module is refused
+data IsRefusedBehind (command : Command) (text : List ℕ) (refusal : Refusal) : Type 0 where
+  by_grammar : (tokens : Tokens) → AreTokensOf text tokens → IsModuleRefused (terminals_of tokens) refusal → IsRefusedBehind command text refusal
+  by_module : (m : Module) → IsModuleText text m → IsRefusedModule command m refusal → IsRefusedBehind command text refusal
 
-behind_tokens : {text : List ℕ} {refusal : Refusal} (tokens : Tokens) → AreTokensOf text tokens → IsTextRefused text refusal → IsRefusedBehind text refusal
-behind_tokens {text} {refusal} tokens lexed (IsTextRefused.no_tokens first) = absurd (tokens_break_nothing text tokens.list tokens.comments lexed.listed refusal first.0)
+behind_tokens : {command : Command} {text : List ℕ} {refusal : Refusal} (tokens : Tokens) → AreTokensOf text tokens → IsTextRefused command text refusal → IsRefusedBehind command text refusal
+behind_tokens {text = text} {refusal = refusal} tokens lexed (IsTextRefused.no_tokens first) = absurd (tokens_break_nothing text tokens.list tokens.comments lexed.listed refusal first.0)
 behind_tokens tokens lexed (IsTextRefused.no_module others again refused) = IsRefusedBehind.by_grammar others again refused
-behind_tokens tokens lexed (IsTextRefused.not_built m is unbuilt) = IsRefusedBehind.by_form m is unbuilt
+behind_tokens tokens lexed (IsTextRefused.bad_names m is first) = IsRefusedBehind.by_module m is (IsRefusedModule.by_names first)
+behind_tokens tokens lexed (IsTextRefused.not_built m is unbuilt) = IsRefusedBehind.by_module m is.is_module (IsRefusedModule.by_form is.clean unbuilt)
 
 module_or_refused : {text : List ℕ} {m : Module} {refusal : Refusal} (tokens : Tokens) → ParsingIsUnique → IsModuleText text m → AreTokensOf text tokens → IsModuleRefused (terminals_of tokens) refusal → ⊥
 module_or_refused {m = m} {refusal = refusal} tokens parsing is lexed refused = parsing.either tokens m refusal (subst (λ ts. IsModuleOf ts m) (tokens_same is.lexed lexed) is.parsed) refused
 
-behind_once : {text : List ℕ} {refusal other : Refusal} → ParsingIsUnique → IsRefusedBehind text refusal → IsRefusedBehind text other → refusal ≡ other
+behind_once : {command : Command} {text : List ℕ} {refusal other : Refusal} → ParsingIsUnique → IsRefusedBehind command text refusal → IsRefusedBehind command text other → refusal ≡ other
 behind_once {refusal = refusal} {other = other} parsing (IsRefusedBehind.by_grammar tokens lexed p) (IsRefusedBehind.by_grammar others again q) =
     parsing.refused (terminals_of tokens) refusal other p (subst (λ ts. IsModuleRefused (terminals_of ts) other) (tokens_same again lexed) q)
-behind_once parsing (IsRefusedBehind.by_grammar tokens lexed p) (IsRefusedBehind.by_form m is q) = absurd (module_or_refused tokens parsing is lexed p)
-behind_once parsing (IsRefusedBehind.by_form m is p) (IsRefusedBehind.by_grammar tokens lexed q) = absurd (module_or_refused tokens parsing is lexed q)
-behind_once {other = other} parsing (IsRefusedBehind.by_form m is p) (IsRefusedBehind.by_form n again q) = unbuilt_once p (subst (λ x. IsUnbuilt x other) (module_same parsing again is) q)
+behind_once parsing (IsRefusedBehind.by_grammar tokens lexed p) (IsRefusedBehind.by_module m is q) = absurd (module_or_refused tokens parsing is lexed p)
+behind_once parsing (IsRefusedBehind.by_module m is p) (IsRefusedBehind.by_grammar tokens lexed q) = absurd (module_or_refused tokens parsing is lexed q)
+behind_once {command} {other = other} parsing (IsRefusedBehind.by_module m is p) (IsRefusedBehind.by_module n again q) =
+    module_refused_once command p (subst (λ x. IsRefusedModule command x other) (module_same parsing again is) q)
 
-refused_once : (text : List ℕ) (refusal other : Refusal) → ParsingIsUnique → IsTextRefused text refusal → IsTextRefused text other → refusal ≡ other
-refused_once text refusal other parsing (IsTextRefused.no_tokens p) (IsTextRefused.no_tokens q) = comes_first-antisymmetric refusal other (p.1 other q.0) (q.1 refusal p.0)
-refused_once text refusal other parsing (IsTextRefused.no_tokens p) (IsTextRefused.no_module tokens lexed q) = absurd (tokens_break_nothing text tokens.list tokens.comments lexed.listed refusal p.0)
-refused_once text refusal other parsing (IsTextRefused.no_tokens p) (IsTextRefused.not_built m is q) = absurd (tokens_break_nothing text is.tokens.list is.tokens.comments is.lexed.listed refusal p.0)
-refused_once text refusal other parsing (IsTextRefused.no_module tokens lexed p) q = behind_once parsing (IsRefusedBehind.by_grammar tokens lexed p) (behind_tokens tokens lexed q)
-refused_once text refusal other parsing (IsTextRefused.not_built m is p) q = behind_once parsing (IsRefusedBehind.by_form m is p) (behind_tokens is.tokens is.lexed q)
+-- the tokens of a text that isn't refused by the lexer
+refused_with_tokens : {command : Command} {text : List ℕ} {refusal : Refusal} → IsTextRefused command text refusal → IsFirst (BreaksText text) (Some refusal) ⊎ ((tokens : Tokens) × AreTokensOf text tokens)
+refused_with_tokens (IsTextRefused.no_tokens first) = inl first
+refused_with_tokens (IsTextRefused.no_module tokens lexed refused) = inr (tokens, lexed)
+refused_with_tokens (IsTextRefused.bad_names m is first) = inr (is.tokens, is.lexed)
+refused_with_tokens (IsTextRefused.not_built m is unbuilt) = inr (is.is_module.tokens, is.is_module.lexed)
 
-run_or_refused : (text output : List ℕ) (refusal : Refusal) → ParsingIsUnique → IsRun text output → IsRefusedBehind text refusal → ⊥
-run_or_refused text output refusal parsing run (IsRefusedBehind.by_grammar tokens lexed refused) = module_or_refused tokens parsing run.is_module lexed refused
-run_or_refused text output refusal parsing run (IsRefusedBehind.by_form m is unbuilt) = prints_or_refused run.prints (subst (λ x. IsUnbuilt x refusal) (module_same parsing is run.is_module) unbuilt)
+refused_once : {command : Command} {text : List ℕ} (refusal other : Refusal) → ParsingIsUnique → IsTextRefused command text refusal → IsTextRefused command text other → refusal ≡ other
+refused_once {text = text} refusal other parsing p q = elim (refused_with_tokens p) [
+  | inl first ↦ elim (refused_with_tokens q) [
+    | inl second ↦ first_once (BreaksText text) refusal other first second
+    | inr lexed ↦ absurd (tokens_break_nothing text lexed.0.list lexed.0.comments lexed.1.listed refusal first.0)
+  ]
+  | inr lexed ↦ behind_once parsing (behind_tokens lexed.0 lexed.1 p) (behind_tokens lexed.0 lexed.1 q)
+]
+
+accepted_once : {text output other : List ℕ} (command : Command) → ParsingIsUnique → IsAccepted command text output → IsAccepted command text other → output ≡ other
+accepted_once {other = other} command parsing a b =
+    written_once a.tree command a.writes (subst (λ m. Writes command m other) (module_same parsing b.named.is_module a.named.is_module) b.writes)
+
+accepted_or_refused : {text output : List ℕ} {refusal : Refusal} (command : Command) → ParsingIsUnique → IsAccepted command text output → IsRefusedBehind command text refusal → ⊥
+accepted_or_refused command parsing a (IsRefusedBehind.by_grammar tokens lexed refused) = module_or_refused tokens parsing a.named.is_module lexed refused
+accepted_or_refused {output = output} {refusal = refusal} command parsing a (IsRefusedBehind.by_module m is refused) =
+    written_or_refused output command a.named.clean a.writes (subst (λ x. IsRefusedModule command x refusal) (module_same parsing is a.named.is_module) refused)
 
 pub answers_unique : ParsingIsUnique → AnswersAreUnique
 answers_unique parsing = record {
-  printed = λ text output other a b. printed_once a.prints (subst (λ m. Prints m other) (module_same parsing b.is_module a.is_module) b.prints);
-  refused = λ text refusal other a b. refused_once text refusal other parsing a b;
-  either = λ text output refusal run refused. run_or_refused text output refusal parsing run (behind_tokens run.is_module.tokens run.is_module.lexed refused);
+  accepted = λ command text output other a b. accepted_once command parsing a b;
+  refused = λ command text refusal other a b. refused_once refusal other parsing a b;
+  either = λ command text output refusal a refused. accepted_or_refused command parsing a (behind_tokens a.named.is_module.tokens a.named.is_module.lexed refused);
 }

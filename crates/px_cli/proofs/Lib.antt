@@ -1,12 +1,17 @@
 mod AnswerLaws
 mod CallLemmas
+mod CheckLemmas
+mod CommandLemmas
+mod CompleteLaws
 mod DoesLemmas
 mod ExpressionLemmas
 mod NameLemmas
+mod PhaseLemmas
 mod RefusalLemmas
 mod ReplyLemmas
 mod RunLemmas
 mod SameValues
+mod ServedReports
 mod StatementLemmas
 mod TopCallLemmas
 mod VariableLemmas

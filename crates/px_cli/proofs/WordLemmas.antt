@@ -1,5 +1,6 @@
-use Rattle.std.proofs.Common.{◌≡◌, ◌<◌, ◌≤◌, ℕ, List, [], ◌∷◌, length, get_or, arith, ap, sym, ◌∙◌, refl, map, Bool, true, false, not, nat_eq, codes}
-use Rattle.px_cli.specs.Words.{RunsFile}
+use Rattle.std.proofs.Common.{◌≡◌, ◌<◌, ◌≤◌, ℕ, List, [], ◌∷◌, length, get_or, arith, ap, sym, ◌∙◌, refl, map, Bool, true, false, not, nat_eq}
+use Rattle.px_cli.specs.declared.words.Command.{Command}
+use Rattle.px_cli.specs.Words.{Asks, command_word}
 use lib.Pointwise.{pointwise, bytes_decides}
 
 -- a list of two, from its length and its elements
@@ -21,15 +22,15 @@ same_text text other e = (bytes_decides text other).0 (not_false (pointwise nat_
 has_bytes : (text : List ℕ) (n : ℕ) → length text ≡ n → false ≡ nat_eq n 0 → text ≡ [] → ⊥
 has_bytes text n is e empty = absurd (cc)
 
-pub asks_to_run : {A : Type 0} (bytes : A → List ℕ) (words : List A) (command file : A) (text name : List ℕ) (n : ℕ) →
-    length words < 3 → 2 ≤ length words → command ≡ get_or words 0 command → file ≡ get_or words 1 file →
-    text ≡ bytes command → name ≡ bytes file → false ≡ not (pointwise nat_eq text (codes "run")) →
-    length name ≡ n → false ≡ nat_eq n 0 → (get_or name 0 0 ≡ 45 → ⊥) → RunsFile (map bytes words) name
-asks_to_run bytes words command file text name n short long first second spelled named same counted some unmarked =
-    let two : words ≡ command ∷ file ∷ [] = two_elements words command file short long first second in
-    let run : bytes command ≡ codes "run" = sym spelled ∙ same_text text (codes "run") same in
+pub asks_for : {A : Type 0} (bytes : A → List ℕ) (words : List A) (command : Command) (first file : A) (text word name : List ℕ) (n : ℕ) →
+    length words < 3 → 2 ≤ length words → first ≡ get_or words 0 first → file ≡ get_or words 1 file →
+    text ≡ bytes first → word ≡ command_word command → name ≡ bytes file → false ≡ not (pointwise nat_eq text word) →
+    length name ≡ n → false ≡ nat_eq n 0 → (get_or name 0 0 ≡ 45 → ⊥) → Asks command (map bytes words) name
+asks_for bytes words command first file text word name n short long begins follows spelled known named same counted some unmarked =
+    let two : words ≡ first ∷ file ∷ [] = two_elements words first file short long begins follows in
+    let asked : bytes first ≡ command_word command = sym spelled ∙ same_text text word same ∙ known in
     record {
-      spelled = ap (map bytes) two ∙ (λ i. run i ∷ sym named i ∷ []);
+      spelled = ap (map bytes) two ∙ (λ i. asked i ∷ sym named i ∷ []);
       nonempty = has_bytes name n counted some;
       no_option = λ rest dashed. unmarked (ap (λ (text : List ℕ). get_or text 0 0) dashed);
     }

@@ -1,14 +1,15 @@
 -- What a call of the program answers: a status, what it writes on the standard output and on the standard error.
-use Rattle.std.specs.Prelude.{◌≡◌, ◌≢◌, ◌<◌, ◌≤◌, ◌⊎◌, ℕ, List, [], ◌++◌, Option, Some, None, length, codes}
+use Rattle.std.specs.Prelude.{◌≡◌, ◌≢◌, ◌<◌, ◌≤◌, ◌⊎◌, ℕ, List, [], ◌++◌, Option, Some, None, Contains, length, codes}
 use Rattle.std.specs.Io.KnownBytes.{Appends}
 use Rattle.px_base.specs.declared.statuses.Status.{Status}
 use Rattle.px_base.specs.declared.statuses.Status.TheVariants.{Done, Refused, Usage, Raised, Spent, ReadFault, WriteFault, NoMemory, NoFile, TooLarge}
 use Rattle.px_base.specs.declared.refusals.Refusal.{Refusal}
 use Rattle.px_base.specs.Lines.{refusal_text}
 use Rattle.px_base.specs.Outside.{Rose, Grows}
+use Rattle.px_cli.specs.declared.words.Command.{Command}
 use Rattle.px_cli.specs.LineEnds.{with_line_end}
-use Rattle.px_cli.specs.Phases.{IsRun, IsTextRefused}
-use Rattle.px_cli.specs.Words.{RunsFile}
+use Rattle.px_cli.specs.Phases.{IsAccepted, IsTextRefused}
+use Rattle.px_cli.specs.Words.{Asks}
 
 -- the greatest number of bytes of a module
 abbrev pub module_limit : ℕ
@@ -29,17 +30,24 @@ too_large_line = with_line_end (codes "too large")
 abbrev pub no_file_line : List ℕ → List ℕ
 no_file_line file = with_line_end (codes "no such file: " ++ file)
 
--- The facts of a call: the command's words, the library's map where the library tells it, and the library's counts of
--- faults when the call begins and when it ends.
+-- The facts of a call: the commands that it serves, the command's words, the library's map where the library tells it, and the
+-- library's counts of faults when the call begins and when it ends.
 pub record Facts : Type 0 where
+  pub commands : List Command
   pub words : List (List ℕ)
   pub map : Option (List ℕ → Option (List ℕ))
   pub faults_before : ℕ
   pub faults_after : ℕ
 
 -- these facts
-abbrev pub facts_of : List (List ℕ) → Option (List ℕ → Option (List ℕ)) → ℕ → ℕ → Facts
-facts_of words map before after = record { words = words; map = map; faults_before = before; faults_after = after }
+abbrev pub facts_of : List Command → List (List ℕ) → Option (List ℕ → Option (List ℕ)) → ℕ → ℕ → Facts
+facts_of commands words map before after =
+    record { commands = commands; words = words; map = map; faults_before = before; faults_after = after }
+
+-- the words ask for this command on this file, and the call serves it
+pub record IsAsked (facts : Facts) (command : Command) (file : List ℕ) : Type 0 where
+  pub served : Contains facts.commands command
+  pub asked : Asks command facts.words file
 
 -- the library didn't fail in the call
 abbrev pub IsUnbroken : Facts → Type 0
@@ -50,50 +58,54 @@ abbrev pub Holds : Option (List ℕ → Option (List ℕ)) → List ℕ → Opti
 Holds None file given = Unit {0}
 Holds (Some map) file given = map file ≡ given
 
--- the file that is to run is a module that isn't too large
-pub record HasModule (facts : Facts) (file text : List ℕ) : Type 0 where
-  pub asked : RunsFile facts.words file
+-- the file that is asked for is a module that isn't too large
+pub record HasModule (facts : Facts) (command : Command) (file text : List ℕ) : Type 0 where
+  pub asked : IsAsked facts command file
   pub content : Holds facts.map file (Some text)
   pub small : length text ≤ module_limit
   pub unbroken : IsUnbroken facts
 
--- the module is of the form that is built, and its output is written
+-- the module is accepted, and the output of the command is written
 pub record IsDone (facts : Facts) (out err : List ℕ) : Type 0 where
+  pub command : Command
   pub file : List ℕ
   pub text : List ℕ
-  pub has : HasModule facts file text
-  pub ran : IsRun text out
+  pub has : HasModule facts command file text
+  pub accepted : IsAccepted command text out
   pub silent : err ≡ []
 
 -- the module is refused
 pub record IsRefused (facts : Facts) (out err : List ℕ) : Type 0 where
+  pub command : Command
   pub file : List ℕ
   pub text : List ℕ
   pub refusal : Refusal
-  pub has : HasModule facts file text
-  pub refused : IsTextRefused text refusal
+  pub has : HasModule facts command file text
+  pub refused : IsTextRefused command text refusal
   pub no_output : out ≡ []
   pub line : err ≡ with_line_end (refusal_text file refusal)
 
--- the words ask for nothing
+-- the words ask for nothing that the call serves
 pub record IsUsage (facts : Facts) (out err : List ℕ) : Type 0 where
-  pub unasked : (file : List ℕ) → RunsFile facts.words file → ⊥
+  pub unasked : (command : Command) (file : List ℕ) → IsAsked facts command file → ⊥
   pub unbroken : IsUnbroken facts
   pub no_output : out ≡ []
   pub line : err ≡ usage_line
 
 -- the library failed
 pub record IsReadFault (facts : Facts) (out err : List ℕ) : Type 0 where
+  pub command : Command
   pub file : List ℕ
-  pub asked : RunsFile facts.words file
+  pub asked : IsAsked facts command file
   pub cause : Rose facts.faults_before facts.faults_after
   pub no_output : out ≡ []
   pub line : err ≡ read_fault_line
 
 -- the library doesn't hold the file
 pub record IsNoFile (facts : Facts) (out err : List ℕ) : Type 0 where
+  pub command : Command
   pub file : List ℕ
-  pub asked : RunsFile facts.words file
+  pub asked : IsAsked facts command file
   pub absent : Holds facts.map file None
   pub unbroken : IsUnbroken facts
   pub no_output : out ≡ []
@@ -101,9 +113,10 @@ pub record IsNoFile (facts : Facts) (out err : List ℕ) : Type 0 where
 
 -- the file has more bytes than a module may have
 pub record IsTooLarge (facts : Facts) (out err : List ℕ) : Type 0 where
+  pub command : Command
   pub file : List ℕ
   pub text : List ℕ
-  pub asked : RunsFile facts.words file
+  pub asked : IsAsked facts command file
   pub content : Holds facts.map file (Some text)
   pub large : module_limit < length text
   pub unbroken : IsUnbroken facts

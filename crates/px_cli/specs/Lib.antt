@@ -1,4 +1,5 @@
 pub mod Answer
+pub mod CheckedForms
 pub mod FirstMeaning
 pub mod FirstRefusals
 pub mod KeptValues

@@ -1,7 +1,23 @@
+-- What the words of a command line ask for.
 use Rattle.std.specs.Prelude.{◌≡◌, ◌≢◌, ℕ, List, [], ◌∷◌, ◌++◌, codes}
+use Rattle.px_cli.specs.declared.words.Command.{Command}
+use Rattle.px_cli.specs.declared.words.Command.TheVariants.{Check, Run}
 
--- The words ask to run this file: a name that is there and doesn't begin with the mark of an option.
-pub record RunsFile (words : List (List ℕ)) (file : List ℕ) : Type 0 where
-  pub spelled : words ≡ codes "run" ∷ file ∷ []
+-- the word of a command
+abbrev pub command_word : Command → List ℕ
+command_word Check = codes "check"
+command_word Run = codes "run"
+
+-- The words ask for this command on this file: a name that is there and doesn't begin with the mark of an option.
+pub record Asks (command : Command) (words : List (List ℕ)) (file : List ℕ) : Type 0 where
+  pub spelled : words ≡ command_word command ∷ file ∷ []
   pub nonempty : file ≢ []
   pub no_option : (rest : List ℕ) → file ≢ codes "-" ++ rest
+
+-- the commands that the call without a run serves, and all that are built
+
+abbrev pub checking_commands : List Command
+checking_commands = Check ∷ []
+
+abbrev pub all_commands : List Command
+all_commands = Check ∷ Run ∷ []

@@ -1,10 +1,18 @@
-ghost use Rattle.px_cli.specs.Laws.{AnswersAreUnique};
+ghost use Rattle.px_cli.specs.Laws.{AnswersAreUnique, CallsAreComplete};
 
 use px_parser::laws::parsing_is_unique;
 
-/// A text has one answer at most: what its module prints, or one refusal.
+/// A text has one answer of a command at most: what is written, or one refusal.
 pub fn answers_are_unique()
     ensures { AnswersAreUnique }
 {
     parsing_is_unique();
+}
+
+/// A call that asks for a text that is there, and in which nothing fails, is done where the text is accepted and refused where it is
+/// refused, but for want of memory.
+pub fn calls_are_complete()
+    ensures { CallsAreComplete }
+{
+    answers_are_unique();
 }

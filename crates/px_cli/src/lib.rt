@@ -2,8 +2,10 @@
 #![tactic(auto)]
 
 mod arithmetic;
+mod checking;
 mod expressions;
 mod laws;
+mod phases;
 mod replies;
 mod running;
 mod statements;
@@ -12,5 +14,5 @@ mod variables;
 mod words;
 mod writing;
 
-pub use laws::answers_are_unique;
-pub use top_call::{Report, cython_main, tell_no_memory};
+pub use laws::{answers_are_unique, calls_are_complete};
+pub use top_call::{Report, check_main, cython_main, tell_no_memory};

@@ -1,19 +1,15 @@
-ghost use Rattle.std.specs.Prelude.{◌≡◌, [], ℕ, List, IfOk, map, string_bytes};
+ghost use Rattle.std.specs.Prelude.{◌≡◌, [], ◌∷◌, ℕ, List, IfOk, map, string_bytes};
 ghost use Rattle.px_base.specs.Lines.{refusal_text};
 ghost use Rattle.px_cli.specs.Answer.{IsAnswer, facts_of, no_file_line};
 ghost use Rattle.px_cli.specs.LineEnds.{with_line_end};
 ghost use Rattle.px_cli.specs.ModuleAnswer.{IsModuleAnswer};
-ghost use Rattle.px_base.specs.Troubles.{IfRefused};
-ghost use Rattle.px_cli.specs.Phases.{IsRun, IsTextRefused};
-ghost use Rattle.px_cli.specs.Words.{RunsFile};
+ghost use Rattle.px_cli.specs.Words.{Asks};
 
-use crate::running::run_module;
-use crate::words::file_to_run;
+use crate::phases::output_of;
+use crate::words::{Command, file_for};
 use px_base::{
     Bytes, Library, LibraryTrouble, NoMemory, Refusal, Status, Trouble, refusal_line, utf8,
 };
-use px_lexer::lexing::tokens;
-use px_parser::parse;
 use std::alloc::Global;
 
 /// The greatest number of bytes of a module.
@@ -30,45 +26,56 @@ pub struct Reply {
     pub line: Bytes,
 }
 
-/// The reply to the words of a command line.
+/// The reply to the words of a command line, of a call that serves one command.
 ///
 /// # Errors
 /// `NoMemory` where there is no memory for it.
 pub fn reply_to<L: Library>(
     alloc: Global,
+    command: Command,
     words: &[String],
     library: &mut L,
 ) -> Result<Reply, NoMemory>
     ensures { IfOk result (λ reply. IsAnswer
-        (facts_of (map string_bytes words.now) (L.holds library.old) (L.faults library.old) (L.faults library.new))
+        (facts_of (command ∷ []) (map string_bytes words.now) (L.holds library.old) (L.faults library.old) (L.faults library.new))
         reply.status reply.output reply.line) }
 {
-    match file_to_run(words) {
-        Some(file) => reply_for_file(alloc, file, library),
+    match file_for(command, words) {
+        Some(file) => reply_for_file(alloc, command, file, library),
         None => reply_of_line(alloc, Status::Usage, USAGE),
     }
 }
 
-fn reply_for_file<L: Library>(alloc: Global, file: &str, library: &mut L) -> Result<Reply, NoMemory>
-    ensures { IfOk result (λ reply. (words : List (List ℕ)) → RunsFile words file.now → IsAnswer
-        (facts_of words (L.holds library.old) (L.faults library.old) (L.faults library.new))
+fn reply_for_file<L: Library>(
+    alloc: Global,
+    command: Command,
+    file: &str,
+    library: &mut L,
+) -> Result<Reply, NoMemory>
+    ensures { IfOk result (λ reply. (words : List (List ℕ)) → Asks command words file.now → IsAnswer
+        (facts_of (command ∷ []) words (L.holds library.old) (L.faults library.old) (L.faults library.new))
         reply.status reply.output reply.line) }
 {
     match library.module(alloc, file) {
-        Ok(Some(text)) => reply_for_module(alloc, file, text.as_slice()),
+        Ok(Some(text)) => reply_for_module(alloc, command, file, text.as_slice()),
         Ok(None) => reply_of_no_file(alloc, file),
         Err(LibraryTrouble::Failed) => reply_of_line(alloc, Status::ReadFault, b"read fault"),
         Err(LibraryTrouble::NoMemory) => Err(NoMemory),
     }
 }
 
-fn reply_for_module(alloc: Global, file: &str, text: &[u8]) -> Result<Reply, NoMemory>
-    ensures { IfOk result (λ reply. IsModuleAnswer file.now text.now reply.status reply.output reply.line) }
+fn reply_for_module(
+    alloc: Global,
+    command: Command,
+    file: &str,
+    text: &[u8],
+) -> Result<Reply, NoMemory>
+    ensures { IfOk result (λ reply. IsModuleAnswer command file.now text.now reply.status reply.output reply.line) }
 {
     if text.len() > MODULE_LIMIT {
         return reply_of_line(alloc, Status::TooLarge, b"too large");
     }
-    match output_of(alloc, text) {
+    match output_of(alloc, command, text) {
         Ok(output) => Ok(Reply {
             status: Status::Done,
             output,
@@ -77,20 +84,6 @@ fn reply_for_module(alloc: Global, file: &str, text: &[u8]) -> Result<Reply, NoM
         Err(Trouble::Refused(refusal)) => reply_of_refusal(alloc, file, &refusal),
         Err(Trouble::NoMemory) => Err(NoMemory),
     }
-}
-
-/// What the module with this text prints.
-///
-/// # Errors
-/// The refusal of the first phase whose rules the text breaks; `NoMemory` where there is no memory for a phase or the
-/// output.
-fn output_of(alloc: Global, text: &[u8]) -> Result<Bytes, Trouble>
-    ensures done { IfOk result (IsRun text.now) }
-    ensures refused { IfRefused result (IsTextRefused text.now) }
-{
-    let found = tokens(alloc, text)?;
-    let module = parse(alloc, &found)?;
-    run_module(alloc, &module)
 }
 
 fn reply_of_refusal(alloc: Global, file: &str, refusal: &Refusal) -> Result<Reply, NoMemory>

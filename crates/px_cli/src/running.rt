@@ -16,7 +16,7 @@ use sqlite_items::at;
 use std::alloc::Global;
 
 /// Whether it is `def main():`, with nothing else in its head.
-fn is_main(function: &Function) -> bool
+pub(crate) fn is_main(function: &Function) -> bool
     ensures { IsTrue result ↔ IsMain function.now }
 {
     function.decorators.is_empty()
@@ -30,7 +30,7 @@ fn is_main(function: &Function) -> bool
 }
 
 /// Whether it is `main()`.
-fn is_call(item: &ModuleItem) -> bool
+pub(crate) fn is_call(item: &ModuleItem) -> bool
     ensures { IsTrue result ↔ IsCallItem item.now }
 {
     let ModuleItem::Statement(statement) = item else {
@@ -57,7 +57,7 @@ fn place(item: &ModuleItem) -> Span
 }
 
 /// Runs the body of `main`, and gives what it prints.
-fn run_body(alloc: Global, body: &[Stmt]) -> Result<Bytes, Trouble>
+pub(crate) fn run_body(alloc: Global, body: &[Stmt]) -> Result<Bytes, Trouble>
     ensures done { IfOk result (λ output. (after : Values) × DoInTurn no_values body.now after output) }
     ensures refused { IfRefused result (λ refusal.
         (at : Span) × StopsAt no_values body.now at × (refusal ≡ unbuilt_refusal at)) }

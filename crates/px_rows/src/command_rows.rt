@@ -6,7 +6,7 @@ use px_base::{
     Bytes, Files, Library, LibraryTrouble, MemoryLibrary, MemorySink, MemorySource, Numbers,
     OpenGate, Sink,
 };
-use px_cli::cython_main;
+use px_cli::{check_main, cython_main};
 use std::alloc::Global;
 
 /// The words of a command line, of which an empty one stands as `''`.
@@ -48,9 +48,19 @@ impl<'a> Taking for ScriptedSink<'a> {
     }
 }
 
-/// Runs a command line, and gives its status and what the sinks took.
+/// The call to which a command line is given.
+#[derive(Clone, Copy)]
+pub enum TopCall {
+    /// That which serves all commands.
+    Cython,
+    /// That which serves none that run a module.
+    Check,
+}
+
+/// Gives a command line to a call, and gives its status and what the sinks took.
 fn call<L: Library, S: Taking>(
     row: &mut Row,
+    top: TopCall,
     line: &str,
     library: &mut L,
     out: &mut S,
@@ -59,15 +69,11 @@ fn call<L: Library, S: Taking>(
     let alloc = row.alloc();
     let words = words_of(row, line);
     let mut input = MemorySource::new(Bytes::new(alloc), 1, Numbers::new(alloc));
-    let report = cython_main(
-        alloc,
-        words.as_slice(),
-        library,
-        &mut input,
-        out,
-        err,
-        &OpenGate,
-    );
+    let words = words.as_slice();
+    let report = match top {
+        TopCall::Cython => cython_main(alloc, words, library, &mut input, out, err, &OpenGate),
+        TopCall::Check => check_main(alloc, words, library, &mut input, out, err),
+    };
     row.whole_number(report.status as u8 as i128);
     row.word("|");
     row.spell(out.taken_bytes());
@@ -76,16 +82,16 @@ fn call<L: Library, S: Taking>(
 }
 
 /// The same over empty sinks that take all.
-fn call_calmly<L: Library>(row: &mut Row, line: &str, library: &mut L) {
+fn call_calmly<L: Library>(row: &mut Row, top: TopCall, line: &str, library: &mut L) {
     let alloc = row.alloc();
     let mut out = MemorySink::new(alloc, usize::MAX, Numbers::new(alloc));
     let mut err = MemorySink::new(alloc, usize::MAX, Numbers::new(alloc));
-    call(row, line, library, &mut out, &mut err);
+    call(row, top, line, library, &mut out, &mut err);
 }
 
 /// A call: its words; a text, and how many `#` stand behind it; the numbers of the calls of the library, the output and the errors that
 /// fail; the most bytes that a write takes; and what is given.
-pub fn command_row(row: &mut Row) {
+pub fn command_row(row: &mut Row, top: TopCall) {
     let line = row.field();
     let mut module = row.bytes();
     for _ in 0..row.number() {
@@ -99,7 +105,7 @@ pub fn command_row(row: &mut Row) {
     let piece = row.size();
     let mut out = MemorySink::new(row.alloc(), piece, failing_out);
     let mut err = MemorySink::new(row.alloc(), piece, failing_err);
-    call(row, line, &mut library, &mut out, &mut err);
+    call(row, top, line, &mut library, &mut out, &mut err);
 }
 
 /// Reads a text, and makes it a library that never fails.
@@ -112,7 +118,13 @@ fn module_library(row: &mut Row) -> MemoryLibrary {
 /// A text that is run, and what is given.
 pub fn run_row(row: &mut Row) {
     let mut library = module_library(row);
-    call_calmly(row, "run m.pyx", &mut library);
+    call_calmly(row, TopCall::Cython, "run m.pyx", &mut library);
+}
+
+/// A text that is checked, and what is given.
+pub fn check_row(row: &mut Row) {
+    let mut library = module_library(row);
+    call_calmly(row, TopCall::Check, "check m.pyx", &mut library);
 }
 
 /// A text that is run, the scripts of the output and of the errors, and what is given.
@@ -120,7 +132,14 @@ pub fn scripted_row(row: &mut Row) {
     let mut library = module_library(row);
     let mut out = ScriptedSink::of_row(row);
     let mut err = ScriptedSink::of_row(row);
-    call(row, "run m.pyx", &mut library, &mut out, &mut err);
+    call(
+        row,
+        TopCall::Cython,
+        "run m.pyx",
+        &mut library,
+        &mut out,
+        &mut err,
+    );
 }
 
 /// A library that has no memory for its answers.
@@ -142,5 +161,5 @@ impl Library for StarvedLibrary {
 /// A call whose library has no memory: its words, and what is given.
 pub fn starved_row(row: &mut Row) {
     let line = row.field();
-    call_calmly(row, line, &mut StarvedLibrary);
+    call_calmly(row, TopCall::Cython, line, &mut StarvedLibrary);
 }

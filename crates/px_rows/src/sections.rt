@@ -1,6 +1,6 @@
 //! The sections of rows, by their names.
 use crate::arithmetic_rows::arithmetic_row;
-use crate::command_rows::{command_row, run_row, scripted_row, starved_row};
+use crate::command_rows::{TopCall, check_row, command_row, run_row, scripted_row, starved_row};
 use crate::expression_rows::{
     expression_row, extent_row, limit_row, long_row, nesting_row, start_row,
 };
@@ -32,7 +32,9 @@ pub enum Section {
     NestedExpressions,
     Verdicts,
     Commands,
+    CheckCommands,
     Runs,
+    Checks,
     ScriptedCommands,
     StarvedCommands,
     Libraries,
@@ -54,7 +56,7 @@ pub enum Section {
 }
 
 /// The names of the sections.
-const SECTIONS: [(&str, Section); 32] = [
+const SECTIONS: [(&str, Section); 34] = [
     ("tokens", Section::Tokens),
     ("long texts", Section::LongTexts),
     ("expressions", Section::Expressions),
@@ -68,7 +70,9 @@ const SECTIONS: [(&str, Section); 32] = [
     ("nested expressions", Section::NestedExpressions),
     ("verdicts", Section::Verdicts),
     ("commands", Section::Commands),
+    ("check commands", Section::CheckCommands),
     ("runs", Section::Runs),
+    ("checks", Section::Checks),
     ("scripted commands", Section::ScriptedCommands),
     ("starved commands", Section::StarvedCommands),
     ("libraries", Section::Libraries),
@@ -140,8 +144,10 @@ pub fn judge<R: rt::Files>(files: &R, section: Section, row: &mut Row) {
 /// The same of the sections of commands and of the outside in memory, and of those below.
 fn judge_call(section: Section, row: &mut Row) {
     match section {
-        Section::Commands => command_row(row),
+        Section::Commands => command_row(row, TopCall::Cython),
+        Section::CheckCommands => command_row(row, TopCall::Check),
         Section::Runs => run_row(row),
+        Section::Checks => check_row(row),
         Section::ScriptedCommands => scripted_row(row),
         Section::StarvedCommands => starved_row(row),
         Section::Libraries => library_row(row),
