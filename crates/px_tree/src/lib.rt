@@ -7,6 +7,8 @@
 //! function and of what `from` imports, the `:` of the header of a compound statement (of its first arm) or of a `cdef:` group,
 //! the NEWLINE or `;` that ends any other statement and a line of a group, END for a module, and otherwise the first token.
 //! Entries, arguments, items, trailers, links and comparisons are parts of their nodes.
+//!
+//! The typed tree stands above it: what a module means, with a type for each value.
 #![tactic(auto)]
 
 mod classes;
@@ -15,7 +17,10 @@ mod lists;
 mod modules;
 mod names;
 mod statements;
-mod typed;
+mod typed_heads;
+mod typed_modules;
+mod typed_trees;
+mod typed_values;
 mod typings;
 
 pub use classes::{Class, ClassOf, Classes};
@@ -30,5 +35,10 @@ pub use modules::{
 };
 pub use names::{FunctionName, Names};
 pub use statements::{Arm, Declaration, Declarator, Stmt, StmtForm};
-pub use typed::{Constants, Typed};
+pub use typed_heads::{ArrayKeyword, TypedHead};
+pub use typed_modules::{
+    Constants, Local, Locals, NodeNumbers, Typed, TypedFunction, TypedFunctions,
+};
+pub use typed_trees::TypedTree;
+pub use typed_values::{Comparing, Conversion, Layout, ValueType, ViewType};
 pub use typings::{Axes, Axis, BaseType, Type};
