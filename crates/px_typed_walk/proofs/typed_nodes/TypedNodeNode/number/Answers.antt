@@ -1,0 +1,7 @@
+use Rattle.std.proofs.Common.{◌≡◌, ap, sym}
+use Rattle.px_walk.specs.Roses.{number_of}
+use Rattle.px_typed_walk.proofs.TypedEquations.{typed_is}
+use Rattle.px_typed_walk.proofs.typed_nodes.TypedNodeNode.number.Goals as goal
+
+pub returns : goal.returns
+returns c = sym (ap number_of (typed_is c.args.self.tree.now))
