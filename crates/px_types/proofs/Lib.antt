@@ -1,0 +1,9 @@
+pub mod ExpressionLogic
+pub mod ExpressionOperators
+pub mod ExpressionParts
+pub mod ExpressionRows
+pub mod ModuleLaws
+pub mod ModuleSteps
+pub mod StatementHeads
+pub mod StatementLoops
+pub mod StatementSteps

@@ -1,0 +1,10 @@
+pub mod Calls
+pub mod CallsKept
+pub mod Expressions
+pub mod ExpressionsKept
+pub mod ModuleKept
+pub mod Statements
+pub mod StatementsKept
+pub mod TypedModule
+pub mod Typers
+pub mod Types
