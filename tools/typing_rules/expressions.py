@@ -278,8 +278,8 @@ class ExpressionTyper:
             if typed is not None and typed.kind == VOID:
                 typed = self.refuse(item.place)
             if isinstance(trailer, Call):
-                # Neither a function, a builtin or an import, nor a method.
-                return self.refuse(item.place)
+                # Neither a function, a builtin or an import, nor a method; what is called and is broken itself breaks no rule here.
+                return self.refuse(item.place) if typed is not None else None
             if isinstance(trailer, Subscript):
                 typed = self.subscript(item.place, typed, trailer)
             elif isinstance(behind, Call):

@@ -1,5 +1,5 @@
 -- A text has one answer of a command at most.
-use Rattle.std.proofs.Common.{◌≡◌, ◌⊎◌, inl, inr, ℕ, List, [], ◌∷◌, Some, None, refl, sym, ap, ◌∙◌, subst}
+use Rattle.std.proofs.Common.{◌≡◌, ◌⊎◌, inl, inr, ℕ, List, [], ◌∷◌, Some, None, Ok, Err, refl, sym, ap, ◌∙◌, subst}
 use Rattle.px_base.specs.declared.refusals.Span.{Span}
 use Rattle.px_base.specs.declared.refusals.Refusal.{Refusal}
 use Rattle.px_base.specs.Findings.{IsFirst}
@@ -21,10 +21,12 @@ use Rattle.px_cli.specs.FirstRefusals.{place_of, StopsAt, IsMainItem, IsCallItem
 use Rattle.px_names.specs.Rules.{BreaksNames}
 use Rattle.px_cli.specs.declared.words.Command.{Command}
 use Rattle.px_cli.specs.declared.words.Command.TheVariants.{Check, Run}
-use Rattle.px_cli.specs.CheckedForms.{IsUnchecked}
-use Rattle.px_cli.specs.Phases.{AreTokensOf, IsModuleText, IsNotTaken, IsAccepted, IsTextRefused, Writes}
+use Rattle.px_names.specs.declared.named.Named.{Named}
+use Rattle.px_names.specs.NamedModule.{IsNamed}
+use Rattle.px_operators.specs.Outcomes.{Outcome}
+use Rattle.px_types.specs.Types.{types_of}
+use Rattle.px_cli.specs.Phases.{AreTokensOf, IsModuleText, IsMistyped, IsNotRun, IsNotTaken, IsAccepted, IsTextRefused, Writes, WritesPrinted}
 use Rattle.px_cli.specs.Laws.{AnswersAreUnique}
-use Rattle.px_cli.proofs.CheckLemmas.{checked_or_unchecked, unchecked_once}
 use Rattle.px_cli.proofs.SameValues.{turns_same, stops_or_does, stops_same}
 
 -- Where a module is refused, by its items
@@ -94,41 +96,91 @@ prints_or_stands header does call (StandsAt.behind again same (EndsAt.other_next
 prints_or_refused : {m : Module} {output : List ℕ} {refusal : Refusal} → Prints m output → IsUnbuilt m refusal → ⊥
 prints_or_refused {m} p r = prints_or_stands {call = module_item.Statement p.call} p.header p.does p.called (subst (λ xs. StandsAt m.at xs r.at) p.items (by_items r.stands))
 
--- What a command makes of a module: one output, or one refusal
+-- What a command makes of a module: one output, or one refusal. What the names of a module stand for is determined as far as its types
+-- hang on it.
 
-checks_once : {m : Module} {refusal other : Refusal} → IsUnchecked m refusal → IsUnchecked m other → refusal ≡ other
-checks_once a b = a.given ∙ ap unbuilt_refusal (unchecked_once a.stands b.stands) ∙ sym b.given
+abbrev AreTypesUnique : Type 0
+AreTypesUnique = (m : Module) (a b : Named) → IsNamed m a → IsNamed m b → types_of a ≡ types_of b
 
-written_once : {output other : List ℕ} (m : Module) (command : Command) → Writes command m output → Writes command m other → output ≡ other
-written_once m Check a b = a.1 ∙ sym b.1
-written_once m Run a b = printed_once a b
+untyped_once : {A : Type 0} {refusal other : Refusal} (t : Outcome A) → t ≡ Err refusal → t ≡ Err other → refusal ≡ other
+untyped_once t is again = cc
 
-not_taken_once : {refusal other : Refusal} (m : Module) (command : Command) → IsNotTaken command m refusal → IsNotTaken command m other → refusal ≡ other
-not_taken_once m Check a b = checks_once a b
-not_taken_once m Run a b = unbuilt_once a b
+typed_or_not : {A : Type 0} {a : A} {refusal : Refusal} (t : Outcome A) → t ≡ Ok a → t ≡ Err refusal → ⊥
+typed_or_not t is other = absurd cc
 
-written_or_not : (m : Module) (output : List ℕ) (refusal : Refusal) (command : Command) → Writes command m output → IsNotTaken command m refusal → ⊥
-written_or_not m output refusal Check a b = checked_or_unchecked a.0 b.stands
-written_or_not m output refusal Run a b = prints_or_refused a b
+-- the same types, and the same module
+record IsAlike (a b : Named) : Type 0 where
+  pub modules : a.«module» ≡ b.«module»
+  pub types : types_of a ≡ types_of b
+
+mistyped_alike : {a b : Named} {refusal : Refusal} → IsAlike a b → IsMistyped a refusal → IsMistyped b refusal
+mistyped_alike alike wrong = record { answer = sym alike.types ∙ wrong.answer; rule = wrong.rule }
+
+alike_back : {a b : Named} → IsAlike a b → IsAlike b a
+alike_back alike = record { modules = sym alike.modules; types = sym alike.types }
+
+printed_alike : {a b : Named} {output : List ℕ} → IsAlike a b → WritesPrinted a output → WritesPrinted b output
+printed_alike {output = output} alike writes =
+    (λ refusal wrong. writes.0 refusal (mistyped_alike (alike_back alike) wrong), subst (λ m. Prints m output) alike.modules writes.1)
+
+not_run_alike : {a b : Named} {refusal : Refusal} → IsAlike a b → IsNotRun a refusal → IsNotRun b refusal
+not_run_alike alike (inl wrong) = inl (mistyped_alike alike wrong)
+not_run_alike {refusal = refusal} alike (inr unbuilt) =
+    inr (λ found wrong. unbuilt.0 found (mistyped_alike (alike_back alike) wrong), subst (λ m. IsUnbuilt m refusal) alike.modules unbuilt.1)
+
+not_taken_alike : {a b : Named} (refusal : Refusal) (command : Command) → IsAlike a b → IsNotTaken command a refusal → IsNotTaken command b refusal
+not_taken_alike refusal Check alike is = sym alike.types ∙ is
+not_taken_alike refusal Run alike is = not_run_alike alike is
+
+writes_alike : {a b : Named} (output : List ℕ) (command : Command) → IsAlike a b → Writes command a output → Writes command b output
+writes_alike output Check alike writes = (writes.0, sym alike.types ∙ writes.1, writes.2)
+writes_alike output Run alike writes = printed_alike alike writes
+
+written_once : {output other : List ℕ} (named : Named) (command : Command) → Writes command named output → Writes command named other → output ≡ other
+written_once named Check a b = a.2 ∙ sym b.2
+written_once named Run a b = printed_once a.1 b.1
+
+not_run_once : {named : Named} {refusal other : Refusal} → IsNotRun named refusal → IsNotRun named other → refusal ≡ other
+not_run_once {named} (inl p) (inl q) = untyped_once (types_of named) p.answer q.answer
+not_run_once {refusal = refusal} (inl p) (inr q) = absurd (q.0 refusal p)
+not_run_once {other = other} (inr p) (inl q) = absurd (p.0 other q)
+not_run_once (inr p) (inr q) = unbuilt_once p.1 q.1
+
+not_taken_once : {refusal other : Refusal} (named : Named) (command : Command) → IsNotTaken command named refusal → IsNotTaken command named other → refusal ≡ other
+not_taken_once named Check a b = untyped_once (types_of named) a b
+not_taken_once named Run a b = not_run_once a b
+
+printed_or_not : {named : Named} {output : List ℕ} {refusal : Refusal} → WritesPrinted named output → IsNotRun named refusal → ⊥
+printed_or_not {refusal = refusal} a (inl wrong) = a.0 refusal wrong
+printed_or_not a (inr unbuilt) = prints_or_refused a.1 unbuilt.1
+
+written_or_not : (named : Named) (output : List ℕ) (refusal : Refusal) (command : Command) → Writes command named output → IsNotTaken command named refusal → ⊥
+written_or_not named output refusal Check a b = typed_or_not (types_of named) a.1 b
+written_or_not named output refusal Run a b = printed_or_not a b
 
 first_once : (P : Refusal → Type 0) (refusal other : Refusal) → IsFirst P (Some refusal) → IsFirst P (Some other) → refusal ≡ other
 first_once P refusal other p q = comes_first-antisymmetric refusal other (p.1 other q.0) (q.1 refusal p.0)
 
--- Why a module is refused: for its names, or for what isn't built
+-- Why a module is refused: for its names, or behind them
 
 data IsRefusedModule (command : Command) (m : Module) (refusal : Refusal) : Type 0 where
   by_names : IsFirst (BreaksNames m) (Some refusal) → IsRefusedModule command m refusal
-  by_form : IsFirst (BreaksNames m) None → IsNotTaken command m refusal → IsRefusedModule command m refusal
+  by_command : (named : Named) → IsFirst (BreaksNames m) None → IsNamed m named → IsNotTaken command named refusal → IsRefusedModule command m refusal
 
-module_refused_once : {m : Module} {refusal other : Refusal} (command : Command) → IsRefusedModule command m refusal → IsRefusedModule command m other → refusal ≡ other
-module_refused_once {m} {refusal} {other} command (IsRefusedModule.by_names p) (IsRefusedModule.by_names q) = first_once (BreaksNames m) refusal other p q
-module_refused_once {refusal = refusal} command (IsRefusedModule.by_names p) (IsRefusedModule.by_form clean q) = absurd (clean refusal p.0)
-module_refused_once {other = other} command (IsRefusedModule.by_form clean p) (IsRefusedModule.by_names q) = absurd (clean other q.0)
-module_refused_once {m} command (IsRefusedModule.by_form clean p) (IsRefusedModule.by_form again q) = not_taken_once m command p q
+alike : {m : Module} {a b : Named} → AreTypesUnique → IsNamed m a → IsNamed m b → IsAlike a b
+alike {m} {a} {b} unique p q = record { modules = p.kept ∙ sym q.kept; types = unique m a b p q }
 
-written_or_refused : {m : Module} {refusal : Refusal} (output : List ℕ) (command : Command) → IsFirst (BreaksNames m) None → Writes command m output → IsRefusedModule command m refusal → ⊥
-written_or_refused {refusal = refusal} output command clean writes (IsRefusedModule.by_names p) = clean refusal p.0
-written_or_refused {m} {refusal} output command clean writes (IsRefusedModule.by_form again p) = written_or_not m output refusal command writes p
+module_refused_once : {m : Module} {refusal other : Refusal} (command : Command) → AreTypesUnique → IsRefusedModule command m refusal → IsRefusedModule command m other → refusal ≡ other
+module_refused_once {m} {refusal} {other} command unique (IsRefusedModule.by_names p) (IsRefusedModule.by_names q) = first_once (BreaksNames m) refusal other p q
+module_refused_once {refusal = refusal} command unique (IsRefusedModule.by_names p) (IsRefusedModule.by_command named clean is q) = absurd (clean refusal p.0)
+module_refused_once {other = other} command unique (IsRefusedModule.by_command named clean is p) (IsRefusedModule.by_names q) = absurd (clean other q.0)
+module_refused_once {refusal = refusal} command unique (IsRefusedModule.by_command named clean is p) (IsRefusedModule.by_command again pure stands q) =
+    not_taken_once again command (not_taken_alike refusal command (alike unique is stands) p) q
+
+written_or_refused : {m : Module} {refusal : Refusal} (output : List ℕ) (command : Command) (named : Named) → AreTypesUnique → IsFirst (BreaksNames m) None → IsNamed m named → Writes command named output → IsRefusedModule command m refusal → ⊥
+written_or_refused {refusal = refusal} output command named unique clean is writes (IsRefusedModule.by_names p) = clean refusal p.0
+written_or_refused {refusal = refusal} output command named unique clean is writes (IsRefusedModule.by_command other again stands p) =
+    written_or_not other output refusal command (writes_alike output command (alike unique is stands) writes) p
 
 -- What a text is: one list of tokens, and one module
 
@@ -154,47 +206,49 @@ behind_tokens : {command : Command} {text : List ℕ} {refusal : Refusal} (token
 behind_tokens {text = text} {refusal = refusal} tokens lexed (IsTextRefused.no_tokens first) = absurd (tokens_break_nothing text tokens.list tokens.comments lexed.listed refusal first.0)
 behind_tokens tokens lexed (IsTextRefused.no_module others again refused) = IsRefusedBehind.by_grammar others again refused
 behind_tokens tokens lexed (IsTextRefused.bad_names m is first) = IsRefusedBehind.by_module m is (IsRefusedModule.by_names first)
-behind_tokens tokens lexed (IsTextRefused.not_built m is unbuilt) = IsRefusedBehind.by_module m is.is_module (IsRefusedModule.by_form is.clean unbuilt)
+behind_tokens tokens lexed (IsTextRefused.not_taken named is refused) = IsRefusedBehind.by_module named.«module» is.is_module (IsRefusedModule.by_command named is.clean is.names refused)
 
 module_or_refused : {text : List ℕ} {m : Module} {refusal : Refusal} (tokens : Tokens) → ParsingIsUnique → IsModuleText text m → AreTokensOf text tokens → IsModuleRefused (terminals_of tokens) refusal → ⊥
 module_or_refused {m = m} {refusal = refusal} tokens parsing is lexed refused = parsing.either tokens m refusal (subst (λ ts. IsModuleOf ts m) (tokens_same is.lexed lexed) is.parsed) refused
 
-behind_once : {command : Command} {text : List ℕ} {refusal other : Refusal} → ParsingIsUnique → IsRefusedBehind command text refusal → IsRefusedBehind command text other → refusal ≡ other
-behind_once {refusal = refusal} {other = other} parsing (IsRefusedBehind.by_grammar tokens lexed p) (IsRefusedBehind.by_grammar others again q) =
+behind_once : {command : Command} {text : List ℕ} {refusal other : Refusal} → ParsingIsUnique → AreTypesUnique → IsRefusedBehind command text refusal → IsRefusedBehind command text other → refusal ≡ other
+behind_once {refusal = refusal} {other = other} parsing unique (IsRefusedBehind.by_grammar tokens lexed p) (IsRefusedBehind.by_grammar others again q) =
     parsing.refused (terminals_of tokens) refusal other p (subst (λ ts. IsModuleRefused (terminals_of ts) other) (tokens_same again lexed) q)
-behind_once parsing (IsRefusedBehind.by_grammar tokens lexed p) (IsRefusedBehind.by_module m is q) = absurd (module_or_refused tokens parsing is lexed p)
-behind_once parsing (IsRefusedBehind.by_module m is p) (IsRefusedBehind.by_grammar tokens lexed q) = absurd (module_or_refused tokens parsing is lexed q)
-behind_once {command} {other = other} parsing (IsRefusedBehind.by_module m is p) (IsRefusedBehind.by_module n again q) =
-    module_refused_once command p (subst (λ x. IsRefusedModule command x other) (module_same parsing again is) q)
+behind_once parsing unique (IsRefusedBehind.by_grammar tokens lexed p) (IsRefusedBehind.by_module m is q) = absurd (module_or_refused tokens parsing is lexed p)
+behind_once parsing unique (IsRefusedBehind.by_module m is p) (IsRefusedBehind.by_grammar tokens lexed q) = absurd (module_or_refused tokens parsing is lexed q)
+behind_once {command} {other = other} parsing unique (IsRefusedBehind.by_module m is p) (IsRefusedBehind.by_module n again q) =
+    module_refused_once command unique p (subst (λ x. IsRefusedModule command x other) (module_same parsing again is) q)
 
 -- the tokens of a text that isn't refused by the lexer
 refused_with_tokens : {command : Command} {text : List ℕ} {refusal : Refusal} → IsTextRefused command text refusal → IsFirst (BreaksText text) (Some refusal) ⊎ ((tokens : Tokens) × AreTokensOf text tokens)
 refused_with_tokens (IsTextRefused.no_tokens first) = inl first
 refused_with_tokens (IsTextRefused.no_module tokens lexed refused) = inr (tokens, lexed)
 refused_with_tokens (IsTextRefused.bad_names m is first) = inr (is.tokens, is.lexed)
-refused_with_tokens (IsTextRefused.not_built m is unbuilt) = inr (is.is_module.tokens, is.is_module.lexed)
+refused_with_tokens (IsTextRefused.not_taken named is refused) = inr (is.is_module.tokens, is.is_module.lexed)
 
-refused_once : {command : Command} {text : List ℕ} (refusal other : Refusal) → ParsingIsUnique → IsTextRefused command text refusal → IsTextRefused command text other → refusal ≡ other
-refused_once {text = text} refusal other parsing p q = elim (refused_with_tokens p) [
+refused_once : {command : Command} {text : List ℕ} (refusal other : Refusal) → ParsingIsUnique → AreTypesUnique → IsTextRefused command text refusal → IsTextRefused command text other → refusal ≡ other
+refused_once {text = text} refusal other parsing unique p q = elim (refused_with_tokens p) [
   | inl first ↦ elim (refused_with_tokens q) [
     | inl second ↦ first_once (BreaksText text) refusal other first second
     | inr lexed ↦ absurd (tokens_break_nothing text lexed.0.list lexed.0.comments lexed.1.listed refusal first.0)
   ]
-  | inr lexed ↦ behind_once parsing (behind_tokens lexed.0 lexed.1 p) (behind_tokens lexed.0 lexed.1 q)
+  | inr lexed ↦ behind_once parsing unique (behind_tokens lexed.0 lexed.1 p) (behind_tokens lexed.0 lexed.1 q)
 ]
 
-accepted_once : {text output other : List ℕ} (command : Command) → ParsingIsUnique → IsAccepted command text output → IsAccepted command text other → output ≡ other
-accepted_once {other = other} command parsing a b =
-    written_once a.tree command a.writes (subst (λ m. Writes command m other) (module_same parsing b.named.is_module a.named.is_module) b.writes)
+accepted_once : {text output other : List ℕ} (command : Command) → ParsingIsUnique → AreTypesUnique → IsAccepted command text output → IsAccepted command text other → output ≡ other
+accepted_once {other = other} command parsing unique a b =
+    let same = module_same parsing b.is_named.is_module a.is_named.is_module in
+    let names : IsNamed a.named.«module» b.named = subst (λ m. IsNamed m b.named) same b.is_named.names in
+    written_once a.named command a.writes (writes_alike other command (alike unique names a.is_named.names) b.writes)
 
-accepted_or_refused : {text output : List ℕ} {refusal : Refusal} (command : Command) → ParsingIsUnique → IsAccepted command text output → IsRefusedBehind command text refusal → ⊥
-accepted_or_refused command parsing a (IsRefusedBehind.by_grammar tokens lexed refused) = module_or_refused tokens parsing a.named.is_module lexed refused
-accepted_or_refused {output = output} {refusal = refusal} command parsing a (IsRefusedBehind.by_module m is refused) =
-    written_or_refused output command a.named.clean a.writes (subst (λ x. IsRefusedModule command x refusal) (module_same parsing is a.named.is_module) refused)
+accepted_or_refused : {text output : List ℕ} {refusal : Refusal} (command : Command) → ParsingIsUnique → AreTypesUnique → IsAccepted command text output → IsRefusedBehind command text refusal → ⊥
+accepted_or_refused command parsing unique a (IsRefusedBehind.by_grammar tokens lexed refused) = module_or_refused tokens parsing a.is_named.is_module lexed refused
+accepted_or_refused {output = output} {refusal = refusal} command parsing unique a (IsRefusedBehind.by_module m is refused) =
+    written_or_refused output command a.named unique a.is_named.clean a.is_named.names a.writes (subst (λ x. IsRefusedModule command x refusal) (module_same parsing is a.is_named.is_module) refused)
 
-pub answers_unique : ParsingIsUnique → AnswersAreUnique
-answers_unique parsing = record {
-  accepted = λ command text output other a b. accepted_once command parsing a b;
-  refused = λ command text refusal other a b. refused_once refusal other parsing a b;
-  either = λ command text output refusal a refused. accepted_or_refused command parsing a (behind_tokens a.named.is_module.tokens a.named.is_module.lexed refused);
+pub answers_unique : ParsingIsUnique → AreTypesUnique → AnswersAreUnique
+answers_unique parsing unique = record {
+  accepted = λ command text output other a b. accepted_once command parsing unique a b;
+  refused = λ command text refusal other a b. refused_once refusal other parsing unique a b;
+  either = λ command text output refusal a refused. accepted_or_refused command parsing unique a (behind_tokens a.is_named.is_module.tokens a.is_named.is_module.lexed refused);
 }

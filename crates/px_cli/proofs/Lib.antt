@@ -1,6 +1,5 @@
 mod AnswerLaws
 mod CallLemmas
-mod CheckLemmas
 mod CommandLemmas
 mod CompleteLaws
 mod DoesLemmas

@@ -1,5 +1,4 @@
 pub mod Answer
-pub mod CheckedForms
 pub mod FirstMeaning
 pub mod FirstRefusals
 pub mod KeptValues

@@ -1,6 +1,6 @@
--- What the phases make of a text, one after the other: its tokens, its module, what its names stand for, and what a command
--- writes; or the refusal of the first phase whose rules it breaks.
-use Rattle.std.specs.Prelude.{◌≡◌, ℕ, List, Some, None, codes}
+-- What the phases make of a text, one after the other: its tokens, its module, what its names stand for, its types, and what a
+-- command writes; or the refusal of the first phase whose rules it breaks.
+use Rattle.std.specs.Prelude.{◌≡◌, ◌⊎◌, ℕ, List, Some, None, Ok, Err, codes}
 use Rattle.px_base.specs.declared.refusals.Refusal.{Refusal}
 use Rattle.px_base.specs.Findings.{IsFirst}
 use Rattle.px_lexer.specs.declared.token_list.Tokens.{Tokens}
@@ -9,12 +9,15 @@ use Rattle.px_lexer.specs.Refusals.{BreaksText}
 use Rattle.px_lexer.specs.Terminals.{terminals_of}
 use Rattle.px_tree.specs.declared.modules.Module.{Module}
 use Rattle.px_parser.specs.Parsing.{IsModuleOf, IsModuleRefused}
+use Rattle.px_names.specs.declared.named.Named.{Named}
+use Rattle.px_names.specs.NamedModule.{IsNamed}
 use Rattle.px_names.specs.Rules.{BreaksNames}
+use Rattle.px_types.specs.TypedModule.{ModuleTypes}
+use Rattle.px_types.specs.Types.{types_of}
 use Rattle.px_cli.specs.declared.words.Command.{Command}
 use Rattle.px_cli.specs.declared.words.Command.TheVariants.{Check, Run}
 use Rattle.px_cli.specs.FirstMeaning.{Prints}
 use Rattle.px_cli.specs.FirstRefusals.{IsUnbuilt}
-use Rattle.px_cli.specs.CheckedForms.{IsChecked, IsUnchecked}
 use Rattle.px_cli.specs.LineEnds.{with_line_end}
 
 -- these are the tokens of the text
@@ -28,30 +31,55 @@ pub record IsModuleText (text : List ℕ) (m : Module) : Type 0 where
   pub lexed : AreTokensOf text tokens
   pub parsed : IsModuleOf tokens m
 
--- the text is this module, which breaks no rule of names
-pub record IsNamedText (text : List ℕ) (m : Module) : Type 0 where
-  pub is_module : IsModuleText text m
-  pub clean : IsFirst (BreaksNames m) None
+-- the text is this module, which breaks no rule of names, and this is what its names stand for
+pub record IsNamedText (text : List ℕ) (named : Named) : Type 0 where
+  pub is_module : IsModuleText text named.«module»
+  pub clean : IsFirst (BreaksNames named.«module») None
+  pub names : IsNamed named.«module» named
 
 -- what `check` writes of a module that is accepted
 abbrev pub ok_line : List ℕ
 ok_line = with_line_end (codes "ok")
 
--- a command takes the module, and writes this
-abbrev pub Writes : Command → Module → List ℕ → Type 0
-Writes Check m output = IsChecked m × (output ≡ ok_line)
-Writes Run m output = Prints m output
+-- its types don't fit, and it is refused so
+pub record IsMistyped (named : Named) (refusal : Refusal) : Type 0 where
+  pub answer : types_of named ≡ Err refusal
+  pub rule : refusal.number ≡ 12
 
--- what isn't built for a command refuses the module so
-abbrev pub IsNotTaken : Command → Module → Refusal → Type 0
-IsNotTaken Check m refusal = IsUnchecked m refusal
-IsNotTaken Run m refusal = IsUnbuilt m refusal
+-- as far as types are built, those of the module fit
+abbrev pub Fits : Named → Type 0
+Fits named = (refusal : Refusal) → IsMistyped named refusal → ⊥
+
+-- A command takes the module, and writes this. `check` takes it where it has types.
+
+abbrev pub WritesOk : Named → List ℕ → Type 0
+WritesOk named output = (found : ModuleTypes) × (types_of named ≡ Ok found) × (output ≡ ok_line)
+
+abbrev pub WritesPrinted : Named → List ℕ → Type 0
+WritesPrinted named output = Fits named × Prints named.«module» output
+
+abbrev pub Writes : Command → Named → List ℕ → Type 0
+Writes Check named output = WritesOk named output
+Writes Run named output = WritesPrinted named output
+
+-- A command refuses the module so: `check` by E12, or E27 of a form whose types aren't built; `run` by E12, or else E27 of what it
+-- doesn't run.
+
+abbrev pub IsUntyped : Named → Refusal → Type 0
+IsUntyped named refusal = types_of named ≡ Err refusal
+
+abbrev pub IsNotRun : Named → Refusal → Type 0
+IsNotRun named refusal = IsMistyped named refusal ⊎ (Fits named × IsUnbuilt named.«module» refusal)
+
+abbrev pub IsNotTaken : Command → Named → Refusal → Type 0
+IsNotTaken Check named refusal = IsUntyped named refusal
+IsNotTaken Run named refusal = IsNotRun named refusal
 
 -- the text is accepted: it is a module that breaks no rule and that the command takes, and this is written
 pub record IsAccepted (command : Command) (text output : List ℕ) : Type 0 where
-  pub tree : Module
-  pub named : IsNamedText text tree
-  pub writes : Writes command tree output
+  pub named : Named
+  pub is_named : IsNamedText text named
+  pub writes : Writes command named output
 
 -- the text is refused
 pub data IsTextRefused (command : Command) (text : List ℕ) (refusal : Refusal) : Type 0 where
@@ -62,5 +90,5 @@ pub data IsTextRefused (command : Command) (text : List ℕ) (refusal : Refusal)
       → IsTextRefused command text refusal
   -- E10, E11, E13 or E27 of names
   bad_names : (m : Module) → IsModuleText text m → IsFirst (BreaksNames m) (Some refusal) → IsTextRefused command text refusal
-  -- E27 at what isn't built
-  not_built : (m : Module) → IsNamedText text m → IsNotTaken command m refusal → IsTextRefused command text refusal
+  -- E12 where types don't fit, or E27 at what isn't built
+  not_taken : (named : Named) → IsNamedText text named → IsNotTaken command named refusal → IsTextRefused command text refusal

@@ -1,12 +1,16 @@
 ghost use Rattle.px_cli.specs.Laws.{AnswersAreUnique, CallsAreComplete};
 
+use px_names::named_modules_are_unique;
 use px_parser::laws::parsing_is_unique;
+use px_types::typed_trees_are_unique;
 
 /// A text has one answer of a command at most: what is written, or one refusal.
 pub fn answers_are_unique()
     ensures { AnswersAreUnique }
 {
     parsing_is_unique();
+    named_modules_are_unique();
+    typed_trees_are_unique();
 }
 
 /// A call that asks for a text that is there, and in which nothing fails, is done where the text is accepted and refused where it is

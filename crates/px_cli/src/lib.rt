@@ -2,7 +2,6 @@
 #![tactic(auto)]
 
 mod arithmetic;
-mod checking;
 mod expressions;
 mod laws;
 mod phases;

@@ -12,8 +12,8 @@ returns-in_err-named-clause-refused c =
 
 pub returns-clause-done : goal.returns-clause-done
 returns-clause-done c =
-    done_for c.output_for.result c.output_for.ensures.done (λ output h. record { tree = c.in_ok-named.named.«module»; named = c.in_ok-named.ensures.named; writes = h })
+    done_for c.output_for.result c.output_for.ensures.done (λ output h. record { named = c.in_ok-named.named; is_named = c.in_ok-named.ensures.named; writes = h })
 
 pub returns-clause-refused : goal.returns-clause-refused
 returns-clause-refused c =
-    refused_for c.output_for.result c.output_for.ensures.refused (λ refusal h. IsTextRefused.not_built c.in_ok-named.named.«module» c.in_ok-named.ensures.named h)
+    refused_for c.output_for.result c.output_for.ensures.refused (λ refusal h. IsTextRefused.not_taken c.in_ok-named.named c.in_ok-named.ensures.named h)
