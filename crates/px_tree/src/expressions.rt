@@ -1,3 +1,4 @@
+use crate::letting_go::let_go;
 use crate::typings::Type;
 use px_base::{BinOp, Chars, Sequence, Span, UnOp};
 use sqlite_items::{Boxed, Items};
@@ -30,11 +31,18 @@ pub enum CompareOp {
 
 /// An expression, and what stands where the grammar has targets or a list of expressions (Python Language Reference, 6).
 #[cycle(expression)]
-#[derive(Drop)]
 pub struct Expr {
     pub number: u32,
     pub at: Span,
     pub form: ExprForm,
+}
+
+impl Drop for Expr {
+    #[cycle(expression)]
+    fn drop(self) {
+        let Expr { number, at, form } = self;
+        let_go(form);
+    }
 }
 
 #[cycle(expression)]

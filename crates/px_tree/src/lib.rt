@@ -13,6 +13,7 @@
 
 mod classes;
 mod expressions;
+mod letting_go;
 mod lists;
 mod modules;
 mod names;

@@ -1,4 +1,5 @@
 use crate::expressions::Expr;
+use crate::letting_go::let_go;
 use crate::names::Names;
 use crate::typings::Type;
 use px_base::{BinOp, Chars, Span};
@@ -6,11 +7,18 @@ use sqlite_items::{Boxed, Items};
 
 /// A statement (Python Language Reference, 7 and 8; Cython user guide, Language Basics).
 #[cycle(statement)]
-#[derive(Drop)]
 pub struct Stmt {
     pub number: u32,
     pub at: Span,
     pub form: StmtForm,
+}
+
+impl Drop for Stmt {
+    #[cycle(statement)]
+    fn drop(self) {
+        let Stmt { number, at, form } = self;
+        let_go(form);
+    }
 }
 
 #[cycle(statement)]
@@ -51,7 +59,6 @@ pub struct Arm {
 }
 
 /// Variables that are declared with one type: at the `cdef` of their line, and in a group at the first token of their line.
-#[derive(Drop)]
 pub struct Declaration {
     pub number: u32,
     pub at: Span,
@@ -59,11 +66,32 @@ pub struct Declaration {
     pub names: Items<Declarator>,
 }
 
+impl Drop for Declaration {
+    fn drop(self) {
+        let Declaration {
+            number,
+            at,
+            typing,
+            names,
+        } = self;
+    }
+}
+
 /// A declared variable, and the value that it is given.
-#[derive(Drop)]
 pub struct Declarator {
     pub number: u32,
     pub at: Span,
     pub name: Chars,
     pub value: Option<Expr>,
+}
+
+impl Drop for Declarator {
+    fn drop(self) {
+        let Declarator {
+            number,
+            at,
+            name,
+            value,
+        } = self;
+    }
 }

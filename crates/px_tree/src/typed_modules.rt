@@ -7,7 +7,6 @@ use sqlite_items::Items;
 
 /// A variable of a function: the number and the place of its declaration, its name and its type. The declaration of a variable that
 /// is only assigned is the first name of the function that stands for it.
-#[derive(Drop)]
 pub struct Local {
     pub number: u32,
     pub at: Span,
@@ -15,11 +14,21 @@ pub struct Local {
     pub value_type: ValueType,
 }
 
+impl Drop for Local {
+    fn drop(self) {
+        let Local {
+            number,
+            at,
+            name,
+            value_type,
+        } = self;
+    }
+}
+
 /// The variables of a function: its parameters, and behind them the others in the order of their declarations.
 pub type Locals = Sequence<Local>;
 
 /// A function with its types, at its first decorator where it has one, and the place of its `def`, `cdef` or `cpdef`.
-#[derive(Drop)]
 pub struct TypedFunction {
     pub number: u32,
     pub at: Span,
@@ -37,6 +46,24 @@ pub struct TypedFunction {
     pub body: Items<TypedTree>,
 }
 
+impl Drop for TypedFunction {
+    fn drop(self) {
+        let TypedFunction {
+            number,
+            at,
+            header_at,
+            kind,
+            name,
+            params,
+            locals,
+            gives,
+            is_noexcept,
+            lock,
+            body,
+        } = self;
+    }
+}
+
 /// The functions of a module, in the order of the text.
 pub type TypedFunctions = Sequence<TypedFunction>;
 
@@ -47,7 +74,6 @@ pub type Constants = Sequence<Constant>;
 pub type NodeNumbers = Sequence<u32>;
 
 /// A module that breaks no rule of names and types, with its types.
-#[derive(Drop)]
 pub struct Typed {
     pub module: Module,
     /// The statements of module code.
@@ -59,4 +85,17 @@ pub struct Typed {
     pub constants: Constants,
     /// The parallel loops.
     pub pranges: NodeNumbers,
+}
+
+impl Drop for Typed {
+    fn drop(self) {
+        let Typed {
+            module,
+            code,
+            functions,
+            names,
+            constants,
+            pranges,
+        } = self;
+    }
 }

@@ -2,6 +2,7 @@ ghost use Rattle.std.specs.Prelude.{◌≡◌};
 ghost use Rattle.px_tree.specs.TypedTypes.{greatest, type_of_head};
 ghost use Rattle.px_tree.specs.declared.typed_trees.TypedTree.{out-TypedTree};
 
+use crate::letting_go::let_go;
 use crate::typed_heads::TypedHead;
 use crate::typed_values::ValueType;
 use px_base::Span;
@@ -11,7 +12,6 @@ use sqlite_items::Items;
 /// node. It has the number and the place of the node of the parse tree that it stems from, and its parts. The node that a number
 /// means is the first one with it from the root.
 #[cycle(typed)]
-#[derive(Drop)]
 pub struct TypedTree {
     pub number: u32,
     pub at: Span,
@@ -20,6 +20,20 @@ pub struct TypedTree {
     pub last: u32,
     pub head: TypedHead,
     pub parts: Items<TypedTree>,
+}
+
+impl Drop for TypedTree {
+    #[cycle(typed)]
+    fn drop(self) {
+        let TypedTree {
+            number,
+            at,
+            last,
+            head,
+            parts,
+        } = self;
+        let_go(parts);
+    }
 }
 
 impl TypedTree {

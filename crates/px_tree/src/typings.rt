@@ -25,11 +25,22 @@ pub enum Axis {
 pub type Axes = Sequence<Axis>;
 
 /// A type as it is written: `const`, its base, and the axes of a view; without axes it is no view.
-#[derive(Drop)]
 pub struct Type {
     pub number: u32,
     pub at: Span,
     pub is_const: bool,
     pub base: BaseType,
     pub axes: Axes,
+}
+
+impl Drop for Type {
+    fn drop(self) {
+        let Type {
+            number,
+            at,
+            is_const,
+            base,
+            axes,
+        } = self;
+    }
 }
