@@ -4,8 +4,6 @@ ghost use Rattle.std.specs.Prelude.{◌≡◌, drop, option_map, option_copied};
 ghost use Rattle.px_walk.specs.HeadForms.{form_of, function_form};
 ghost use Rattle.px_walk.specs.Nodes.{rose_of};
 ghost use Rattle.px_walk.specs.Roses.{head_of, number_of, parts_of};
-ghost use Rattle.px_names.specs.Contexts.{count_of_result, count_of_exception};
-ghost use Rattle.px_names.specs.Uses.{is_call};
 ghost use Rattle.px_environments.specs.Atoms.{c_comparison};
 ghost use Rattle.px_environments.specs.BuiltForms.{is_c, is_plain, is_object, is_unlocked, is_plain_result, is_function_built, are_calls, is_alone, is_in_head, is_result_built, is_function_call_built, count_of_arguments, is_builtin_built, is_c_comparison, has_place, place_of, is_exception_part, role_where, tested_role, role_below, form_below, is_name_built, is_use_built, is_row_built, is_built, is_over_range, is_tested_built, unbuilt_below};
 ghost use Rattle.px_environments.specs.Kept.{environment_kept};
@@ -16,7 +14,7 @@ use crate::form_contexts::{FormContext, FormRole};
 use crate::signatures::Signature;
 use crate::written_types::{first_type, type_of_part};
 use px_base::{Builtin, Refusal, Span};
-use px_names::Meaning;
+use px_names::{Meaning, count_of_exception, count_of_result, is_call};
 use px_tree::{CompareOp, Lock, ValueType};
 use px_walk::{ExceptionKind, FunctionHead, Head, Node, ResultKind, Rules, TreeNode, first_broken};
 
@@ -75,15 +73,6 @@ fn is_function_built(function: FunctionHead<'_>, node: TreeNode<'_>) -> bool
 {
     is_unlocked(function.lock)
         && is_plain_result(function.gives, type_of_part(node.get(function.decorators)))
-}
-
-fn is_call(trailer: Head<'_>) -> bool
-    ensures { result ≡ is_call (form_of trailer.entry) }
-{
-    match trailer {
-        Head::Call => true,
-        _ => false,
-    }
 }
 
 /// Whether all trailers of a row are calls.
@@ -203,28 +192,6 @@ fn place_of(context: FormContext, node: TreeNode<'_>) -> Span
         node.at()
     } else {
         context.at
-    }
-}
-
-fn count_of_result(gives: ResultKind) -> usize
-    ensures { result ≡ count_of_result gives }
-{
-    match gives {
-        ResultKind::Unwritten => 0,
-        ResultKind::Void => 0,
-        ResultKind::Typed => 1,
-    }
-}
-
-fn count_of_exception(exception: ExceptionKind) -> usize
-    ensures { result ≡ count_of_exception exception }
-{
-    match exception {
-        ExceptionKind::Unwritten => 0,
-        ExceptionKind::Noexcept => 0,
-        ExceptionKind::Except => 1,
-        ExceptionKind::Maybe => 1,
-        ExceptionKind::Any => 0,
     }
 }
 

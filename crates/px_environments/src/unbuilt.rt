@@ -10,9 +10,9 @@ ghost use Rattle.px_walk.specs.StmtView.{rose_of_stmt};
 
 use crate::code_environments::{CodeEnvironment, code_environment};
 use crate::locals::locals_of;
-use crate::variables::{Signatures, Variables, function_item, gives_of};
+use crate::variables::{Signatures, Variables, gives_of};
 use px_base::{NoMemory, Refusal, earlier};
-use px_names::{Named, NamedCode};
+use px_names::{Named, NamedCode, function_item};
 use px_tree::{Function, ModuleItem};
 use px_walk::TreeNode;
 use std::alloc::Global;

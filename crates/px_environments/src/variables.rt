@@ -1,7 +1,7 @@
 //! What numbers of declarations and functions stand for.
 
 ghost use Rattle.std.specs.Prelude.{◌≡◌, map, IfOk, OnOk, option_copied};
-ghost use Rattle.px_names.specs.NamedModule.{function_item, functions_of};
+ghost use Rattle.px_names.specs.NamedModule.{functions_of};
 ghost use Rattle.px_environments.specs.Kept.{variables_kept, signatures_kept, with_first};
 ghost use Rattle.px_environments.specs.Signatures.{param_type, result_type, or_object, value_type_of, gives_of, is_def, signature_of, function_in, variable_in};
 
@@ -9,6 +9,7 @@ use crate::signatures::{Signature, ValueTypes, Variable};
 use crate::written_types::type_of_typing;
 use indexmap::IndexMap;
 use px_base::{NoMemory, Sequence};
+use px_names::function_item;
 use px_tree::{
     Function, FunctionKind, Local, Module, ModuleItem, Param, ResultType, Type, ValueType,
 };
@@ -133,16 +134,6 @@ fn signature_of(alloc: Global, place: usize, function: &Function) -> Result<Sign
         params: params_of(alloc, function)?,
         gives: gives_of(function),
     })
-}
-
-/// The function that stands in a module.
-pub(crate) fn function_item(item: &ModuleItem) -> Option<&Function>
-    ensures { option_copied result ≡ function_item item.now }
-{
-    match item {
-        ModuleItem::Function(function) => Some(function.get()),
-        _ => None,
-    }
 }
 
 /// The functions of a module, each by its number.

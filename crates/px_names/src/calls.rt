@@ -41,7 +41,7 @@ fn called_behind(trailer: Head<'_>) -> Callee
 }
 
 /// Whether a trailer is a call.
-pub(crate) fn is_call(trailer: Head<'_>) -> bool
+pub fn is_call(trailer: Head<'_>) -> bool
     ensures { result ≡ is_call (form_of trailer.entry) }
 {
     match trailer {

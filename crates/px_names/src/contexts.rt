@@ -41,7 +41,7 @@ pub(crate) const MODULE_CODE: Context = Context {
 };
 
 /// How many parts the type of a result is.
-fn count_of_result(gives: ResultKind) -> usize
+pub fn count_of_result(gives: ResultKind) -> usize
     ensures { result ≡ count_of_result gives }
 {
     match gives {
@@ -52,7 +52,7 @@ fn count_of_result(gives: ResultKind) -> usize
 }
 
 /// How many parts the value of an `except` clause is.
-fn count_of_exception(exception: ExceptionKind) -> usize
+pub fn count_of_exception(exception: ExceptionKind) -> usize
     ensures { result ≡ count_of_exception exception }
 {
     match exception {

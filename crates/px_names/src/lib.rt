@@ -24,9 +24,10 @@ mod texts;
 mod words;
 
 pub use callees::Callee;
-pub use contexts::{Context, Role};
+pub use calls::is_call;
+pub use contexts::{Context, Role, count_of_exception, count_of_result};
 pub use laws::{named_modules_are_unique, names_stand_for_one};
 pub use meanings::{Imported, LocalKind, Meaning};
 pub use named::{Named, NamedCode, NamedFunctions, Scope};
-pub use naming::names;
+pub use naming::{function_item, names};
 pub use settings::{Directive, Directives};

@@ -14,11 +14,16 @@ use px_base::NoMemory;
 use px_walk::{Head, TreeNode, Visitor};
 
 /// All that the text of a module says of its names.
-#[derive(Drop)]
 pub(crate) struct Lookup<'a> {
     pub(crate) tables: Tables<'a>,
     /// The names that module code assigns, or a function with `global`.
     pub(crate) shared: IndexSet<&'a [char]>,
+}
+
+impl Drop for Lookup<'_> {
+    fn drop(self) {
+        let Lookup { tables, shared } = self;
+    }
 }
 
 impl<'a> Lookup<'a> {

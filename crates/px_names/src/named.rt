@@ -12,9 +12,14 @@ use px_tree::Module;
 use std::alloc::Global;
 
 /// What each name that stands in a function, or else in module code, stands for.
-#[derive(Drop)]
 pub struct Scope {
     pub(crate) meanings: IndexMap<u32, Meaning>,
+}
+
+impl Drop for Scope {
+    fn drop(self) {
+        let Scope { meanings } = self;
+    }
 }
 
 impl Scope {
@@ -42,10 +47,15 @@ impl Scope {
 }
 
 /// A function or module code: what its names stand for, and its directives.
-#[derive(Drop)]
 pub struct NamedCode {
     pub scope: Scope,
     pub directives: Directives,
+}
+
+impl Drop for NamedCode {
+    fn drop(self) {
+        let NamedCode { scope, directives } = self;
+    }
 }
 
 /// The functions of a module, in the order of the text.

@@ -81,7 +81,7 @@ fn function_code<'a>(
 }
 
 /// The function that stands in a module.
-fn function_item(item: &ModuleItem) -> Option<&Function>
+pub fn function_item(item: &ModuleItem) -> Option<&Function>
     ensures { option_copied result ≡ function_item item.now }
 {
     match item {

@@ -39,7 +39,6 @@ pub(crate) struct Defined {
 }
 
 /// All that a module says of its names but for module names.
-#[derive(Drop)]
 pub(crate) struct Tables<'a> {
     /// Of each name the first declaration.
     pub(crate) declared: IndexMap<Key<'a>, Declared>,
@@ -51,6 +50,18 @@ pub(crate) struct Tables<'a> {
     pub(crate) functions: IndexMap<&'a [char], Defined>,
     /// Of each name what the last import gives.
     pub(crate) imports: IndexMap<&'a [char], Imported>,
+}
+
+impl Drop for Tables<'_> {
+    fn drop(self) {
+        let Tables {
+            declared,
+            assigned,
+            globals,
+            functions,
+            imports,
+        } = self;
+    }
 }
 
 impl<'a> Tables<'a> {
