@@ -1,7 +1,3 @@
-pub mod ExpressionLogic
-pub mod ExpressionOperators
-pub mod ExpressionParts
-pub mod ExpressionRows
 pub mod ModuleLaws
 pub mod ModuleSteps
 pub mod StatementHeads

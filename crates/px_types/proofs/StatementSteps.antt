@@ -23,7 +23,7 @@ use Rattle.px_operators.specs.OperatorsKept.{only_answer}
 use Rattle.px_operators.proofs.AllParts.{gathers_with, gathers_all, taken}
 use Rattle.px_environments.specs.Environments.{Environment}
 use Rattle.px_environments.specs.Atoms.{is_range_head}
-use Rattle.px_types.specs.Expressions.{expression, expression_at, operands_below}
+use Rattle.px_typed_expressions.specs.Expressions.{expression, expression_at, operands_below}
 use Rattle.px_types.specs.Statements.{assigned, assigned_each, assignment, assign_of, declarator, declarators_of, range_parts, range_loop, for_over, for_of, is_loop, statement_by, statement, statements}
 use Rattle.px_types.specs.StatementsKept.{with_all, block_from, assigned_to}
 use Rattle.px_types.proofs.StatementLoops.{drop_map, drop_one, drop_whole}

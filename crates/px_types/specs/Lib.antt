@@ -1,7 +1,3 @@
-pub mod Calls
-pub mod CallsKept
-pub mod Expressions
-pub mod ExpressionsKept
 pub mod ModuleKept
 pub mod Statements
 pub mod StatementsKept

@@ -17,7 +17,7 @@ use Rattle.px_environments.specs.Environments.{Environment}
 use Rattle.px_environments.specs.WrittenTypes.{first_type}
 use Rattle.px_operators.specs.Conversions.{fitted, tested, valued}
 use Rattle.px_operators.specs.Operators.{Operand, operand, operands, given, binary_step}
-use Rattle.px_types.specs.Expressions.{expression, expression_at, operands_below}
+use Rattle.px_typed_expressions.specs.Expressions.{expression, expression_at, operands_below}
 use Rattle.px_environments.specs.Atoms.{is_range_head}
 
 -- a node of these parts

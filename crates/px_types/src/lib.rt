@@ -2,8 +2,6 @@
 //! Built are the forms on C values; a module with another form is refused at its place.
 #![tactic(auto)]
 
-mod calls;
-mod expressions;
 mod laws;
 mod statements;
 mod typed_functions;

@@ -7,7 +7,7 @@ ghost use Rattle.px_typed_walk.specs.TypedView.{TypedRose, rose_of_typed, typed_
 ghost use Rattle.px_operators.specs.Outcomes.{Outcome, Gives, followed, mapped, both, all_of};
 ghost use Rattle.px_operators.specs.Conversions.{tested, valued};
 ghost use Rattle.px_operators.specs.Operators.{operand};
-ghost use Rattle.px_types.specs.Expressions.{expression, expression_at, operands_below};
+ghost use Rattle.px_typed_expressions.specs.Expressions.{expression, expression_at, operands_below};
 ghost use Rattle.px_types.specs.Statements.{made, fitted_to, assigned, assigned_at, assigned_each, augmented, returned_as, returned, in_loop, assignment, assign_of, augment_of, declared_with, declarator, declaration, declare_of, return_in, guarded, trees_of, range_arguments, range_parts, range_loop, for_of, statement};
 ghost use Rattle.px_types.specs.StatementsKept.{trees_gathered, with_all, block_from, assigned_to};
 ghost use Rattle.px_operators.specs.Kept.{trees_kept, operand_kept, operands_kept, gathers};

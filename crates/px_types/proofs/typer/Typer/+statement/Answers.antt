@@ -10,7 +10,7 @@ use Rattle.px_typed_walk.specs.TypedView.{rose_of_typed}
 use Rattle.px_operators.specs.Outcomes.{Gives, followed, all_of}
 use Rattle.px_operators.specs.Conversions.{tested}
 use Rattle.px_operators.specs.Kept.{gathered_kept}
-use Rattle.px_types.specs.Expressions.{expression_at}
+use Rattle.px_typed_expressions.specs.Expressions.{expression_at}
 use Rattle.px_types.specs.Statements.{made, guarded, for_of, statement}
 use Rattle.px_types.specs.StatementsKept.{trees_gathered, block_from}
 use Rattle.px_types.specs.Typers.{environment_of}

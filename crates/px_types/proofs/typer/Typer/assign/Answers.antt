@@ -7,7 +7,7 @@ use Rattle.px_typed_walk.specs.TypedView.{rose_of_typed}
 use Rattle.px_operators.specs.Outcomes.{Gives, followed, both, all_of}
 use Rattle.px_operators.specs.Conversions.{valued}
 use Rattle.px_operators.specs.Kept.{trees_kept}
-use Rattle.px_types.specs.Expressions.{expression, expression_at}
+use Rattle.px_typed_expressions.specs.Expressions.{expression, expression_at}
 use Rattle.px_types.specs.StatementsKept.{assigned_to}
 use Rattle.px_types.specs.Typers.{environment_of}
 use Rattle.px_types.proofs.StatementLoops.{joined_as, given_ok, then_given, there}

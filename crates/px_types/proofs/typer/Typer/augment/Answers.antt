@@ -7,7 +7,7 @@ use Rattle.px_typed_walk.specs.TypedView.{rose_of_typed}
 use Rattle.px_operators.specs.Outcomes.{followed, both}
 use Rattle.px_operators.specs.Operators.{operand}
 use Rattle.px_operators.specs.Kept.{operand_kept}
-use Rattle.px_types.specs.Expressions.{expression_at}
+use Rattle.px_typed_expressions.specs.Expressions.{expression_at}
 use Rattle.px_types.specs.Statements.{augmented}
 use Rattle.px_types.specs.Typers.{environment_of}
 use Rattle.px_types.proofs.StatementLoops.{joined_as, given_ok, then_given, there}

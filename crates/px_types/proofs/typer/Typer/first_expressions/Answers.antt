@@ -3,7 +3,7 @@ use Rattle.px_walk.specs.Nodes.{rose_of}
 use Rattle.px_walk.specs.Roses.{parts_of}
 use Rattle.px_typed_walk.specs.TypedView.{rose_of_typed}
 use Rattle.px_operators.specs.Kept.{gathered_kept}
-use Rattle.px_types.specs.Expressions.{expression}
+use Rattle.px_typed_expressions.specs.Expressions.{expression}
 use Rattle.px_types.specs.Typers.{environment_of}
 use Rattle.px_types.proofs.StatementLoops.{from_first, from_next, from_none, all_given, taken_there}
 use Rattle.px_types.proofs.typer.Typer.first_expressions.Goals as goal

@@ -3,7 +3,7 @@ use Rattle.px_walk.specs.Nodes.{rose_of}
 use Rattle.px_walk.specs.Roses.{parts_of}
 use Rattle.px_operators.specs.Outcomes.{all_of}
 use Rattle.px_operators.specs.Kept.{gathers}
-use Rattle.px_types.specs.Expressions.{expression}
+use Rattle.px_typed_expressions.specs.Expressions.{expression}
 use Rattle.px_types.specs.StatementsKept.{trees_gathered}
 use Rattle.px_types.specs.Typers.{environment_of}
 use Rattle.px_types.proofs.typer.Typer.first_expressions.Given as goal

@@ -2,9 +2,9 @@ use Rattle.std.proofs.Common.{[], ◌++◌, drop, ap, ◌∙◌, arith}
 use Rattle.std.specs.List.{cons_option}
 use Rattle.px_walk.specs.Nodes.{rose_of}
 use Rattle.px_walk.specs.Roses.{parts_of}
-use Rattle.px_types.specs.Expressions.{operator_of, operators}
-use Rattle.px_types.proofs.ExpressionOperators.{operators_first, operators_more, operators_last}
-use Rattle.px_types.proofs.expressions.operators.Goals as goal
+use Rattle.px_typed_expressions.specs.Expressions.{operator_of, operators}
+use Rattle.px_typed_expressions.proofs.ExpressionOperators.{operators_first, operators_more, operators_last}
+use Rattle.px_typed_expressions.proofs.expressions.operators.Goals as goal
 
 pub loop-k-init : goal.loop-k-init
 loop-k-init c =

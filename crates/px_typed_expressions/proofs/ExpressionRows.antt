@@ -11,9 +11,9 @@ use Rattle.px_names.proofs.PartLoops.{drop_whole, drop_one, drop_none, nothing_b
 use Rattle.px_operators.specs.Outcomes.{Outcome, Gives, unbuilt, only}
 use Rattle.px_environments.specs.Environments.{Environment}
 use Rattle.px_environments.specs.Atoms.{atom_meaning, is_value}
-use Rattle.px_types.specs.Calls.{behind_one, behind, first_call, row_by, row_of}
-use Rattle.px_types.specs.Expressions.{operands_below}
-use Rattle.px_types.specs.ExpressionsKept.{outcomes_each, trailers_of}
+use Rattle.px_typed_expressions.specs.Calls.{behind_one, behind, first_call, row_by, row_of}
+use Rattle.px_typed_expressions.specs.Expressions.{operands_below}
+use Rattle.px_typed_expressions.specs.ExpressionsKept.{outcomes_each, trailers_of}
 
 zip_map : {A B : Type 0} (f : A → B) (xs : List A) → zip xs (map f xs) ≡ map (λ x. (x, f x)) xs
 zip_map f [] = refl

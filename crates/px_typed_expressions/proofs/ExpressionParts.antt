@@ -14,10 +14,10 @@ use Rattle.px_names.proofs.PartLoops.{drop_whole, drop_one, nothing_behind}
 use Rattle.px_operators.specs.Outcomes.{Outcome, flat}
 use Rattle.px_environments.specs.Environments.{Environment}
 use Rattle.px_environments.specs.Atoms.{is_range_row}
-use Rattle.px_types.specs.Calls.{row_of}
-use Rattle.px_types.specs.Expressions.{is_between, expression_of, row_operands, other_operands, operands_by, operands_below, operands_each}
-use Rattle.px_types.specs.ExpressionsKept.{outcomes_each, value_operands}
-use Rattle.px_types.proofs.ExpressionOperators.{append_none}
+use Rattle.px_typed_expressions.specs.Calls.{row_of}
+use Rattle.px_typed_expressions.specs.Expressions.{is_between, expression_of, row_operands, other_operands, operands_by, operands_below, operands_each}
+use Rattle.px_typed_expressions.specs.ExpressionsKept.{outcomes_each, value_operands}
+use Rattle.px_typed_expressions.proofs.ExpressionOperators.{append_none}
 
 each_is : (environment : Environment) (parts : Roses Form) → operands_each environment parts ≡ outcomes_each environment (listed parts)
 unfolding operands_below

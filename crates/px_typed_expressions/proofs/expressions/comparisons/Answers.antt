@@ -1,9 +1,9 @@
 use Rattle.std.proofs.Common.{drop, sym, ap, ◌∙◌, arith}
 use Rattle.px_walk.specs.Nodes.{rose_of}
 use Rattle.px_walk.specs.Roses.{at_of, parts_of}
-use Rattle.px_types.specs.Expressions.{comparison_in}
-use Rattle.px_types.proofs.ExpressionOperators.{with_comparisons, comparisons_first, comparisons_more, comparisons_other, comparisons_last}
-use Rattle.px_types.proofs.expressions.comparisons.Goals as goal
+use Rattle.px_typed_expressions.specs.Expressions.{comparison_in}
+use Rattle.px_typed_expressions.proofs.ExpressionOperators.{with_comparisons, comparisons_first, comparisons_more, comparisons_other, comparisons_last}
+use Rattle.px_typed_expressions.proofs.expressions.comparisons.Goals as goal
 
 pub loop-k-init : goal.loop-k-init
 loop-k-init c =

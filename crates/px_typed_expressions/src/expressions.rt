@@ -8,14 +8,14 @@ ghost use Rattle.px_walk.specs.Roses.{head_of, number_of, at_of, parts_of};
 ghost use Rattle.px_typed_walk.specs.TypedView.{TypedRose, rose_of_typed};
 ghost use Rattle.px_operators.specs.Outcomes.{Outcome, Gives, followed, flat};
 ghost use Rattle.px_operators.specs.Operators.{operands, chain_of, comparison_of};
-ghost use Rattle.px_types.specs.Calls.{first_call, behind_value, behind_one, behind, row_of};
+ghost use Rattle.px_typed_expressions.specs.Calls.{first_call, behind_value, behind_one, behind, row_of};
 ghost use Rattle.px_environments.specs.Atoms.{is_long};
-ghost use Rattle.px_types.specs.Expressions.{number_of_type, truth_of, size_of, cast_of, operator_of, operators, comparison_in, comparisons, is_between, name_of, expression_of, row_operands, operands_below, expression, expression_at};
+ghost use Rattle.px_typed_expressions.specs.Expressions.{number_of_type, truth_of, size_of, cast_of, operator_of, operators, comparison_in, comparisons, is_between, name_of, expression_of, row_operands, operands_below, expression, expression_at};
 ghost use Rattle.px_operators.specs.Kept.{parts_kept};
-ghost use Rattle.px_types.specs.Typers.{environment_of};
-ghost use Rattle.px_types.specs.ExpressionsKept.{outcomes_each, trailers_of, value_operands, behind_trouble};
+ghost use Rattle.px_typed_expressions.specs.Typers.{environment_of};
+ghost use Rattle.px_typed_expressions.specs.ExpressionsKept.{outcomes_each, trailers_of, value_operands, behind_trouble};
 
-use crate::typer::Typer;
+use crate::typer::ExpressionTyper;
 use px_base::{BinOp, CType, CmpOp, NoMemory, Span, Trouble};
 use px_environments::{c_comparison, first_type, is_long, is_value};
 use px_names::Meaning;
@@ -143,7 +143,7 @@ fn is_between(head: Head<'_>) -> bool
     }
 }
 
-impl<'a> Typer<'a> {
+impl<'a> ExpressionTyper<'a> {
     /// A name as a value.
     fn name_of(&self, number: u32, at: Span) -> Result<TypedTree, Trouble>
         ensures { Gives rose_of_typed result (name_of (environment_of self.now) ((environment_of self.now).meanings number) number at) }
@@ -289,9 +289,12 @@ impl<'a> Typer<'a> {
         self.expression_of(node, below)
     }
 
-    /// What an expression comes to, or what is below a node between expressions.
+    /// What an expression comes to, or what is below a node between expressions, in the order of the text.
+    ///
+    /// # Errors
+    /// `NoMemory` where there is no memory for the parts; what is refused is said by the part.
     #[cycle(gather)]
-    pub(crate) fn below(&self, node: TreeNode<'_>) -> Result<Vec<Part>, NoMemory>
+    pub fn below(&self, node: TreeNode<'_>) -> Result<Vec<Part>, NoMemory>
         ensures { IfOk result (λ parts. parts_kept parts.items ≡ operands_below (environment_of self.now) (rose_of node.entry)) }
     {
         let mut gathered = Vec::new(self.alloc);
@@ -357,16 +360,23 @@ impl<'a> Typer<'a> {
         so_far
     }
 
-    /// An expression.
-    pub(crate) fn expression(&self, node: TreeNode<'_>) -> Result<TypedTree, Trouble>
+    /// The typed tree of an expression.
+    ///
+    /// # Errors
+    /// A refusal by E12 of the first place where types don't fit, and by E27 of a form that isn't built; `NoMemory` where there is no
+    /// memory for the tree.
+    pub fn expression(&self, node: TreeNode<'_>) -> Result<TypedTree, Trouble>
         ensures { Gives rose_of_typed result (expression (environment_of self.now) (rose_of node.entry)) }
     {
         let parts = self.below(node)?;
         only_part(node.at(), parts)
     }
 
-    /// The expression that is a part of a node.
-    pub(crate) fn expression_at(&self, node: TreeNode<'_>, k: usize) -> Result<TypedTree, Trouble>
+    /// The typed tree of the expression that is the part of a node with that number, from 0.
+    ///
+    /// # Errors
+    /// As for an expression; a node without the part is a form that isn't built.
+    pub fn expression_at(&self, node: TreeNode<'_>, k: usize) -> Result<TypedTree, Trouble>
         ensures { Gives rose_of_typed result (expression_at (environment_of self.now) (at_of (rose_of node.entry)) (slice_get (parts_of (rose_of node.entry)) k)) }
     {
         match node.get(k) {

@@ -4,12 +4,12 @@ use Rattle.px_walk.specs.Roses.{at_of, parts_of, size}
 use Rattle.px_typed_walk.specs.TypedView.{TypedRose, rose_of_typed}
 use Rattle.px_operators.specs.Outcomes.{Outcome, Gives}
 use Rattle.px_operators.specs.Kept.{parts_kept}
-use Rattle.px_types.specs.Typers.{environment_of}
-use Rattle.px_types.specs.Calls.{behind}
-use Rattle.px_types.specs.ExpressionsKept.{trailers_of}
-use Rattle.px_types.proofs.ExpressionParts.{with_parts}
-use Rattle.px_types.proofs.ExpressionRows.{Behind}
-use Rattle.px_types.proofs.typer.Typer.+gather.Given as goal
+use Rattle.px_typed_expressions.specs.Typers.{environment_of}
+use Rattle.px_typed_expressions.specs.Calls.{behind}
+use Rattle.px_typed_expressions.specs.ExpressionsKept.{trailers_of}
+use Rattle.px_typed_expressions.proofs.ExpressionParts.{with_parts}
+use Rattle.px_typed_expressions.proofs.ExpressionRows.{Behind}
+use Rattle.px_typed_expressions.proofs.typer.ExpressionTyper.+gather.Given as goal
 
 abbrev pub decreases-below : goal.decreases-below
 decreases-below l = 5 * size (rose_of l.node) + 4

@@ -1,9 +1,9 @@
 use Rattle.std.proofs.Common.{◌≡◌, drop}
 use Rattle.px_walk.specs.Nodes.{rose_of}
 use Rattle.px_walk.specs.Roses.{at_of, parts_of}
-use Rattle.px_types.specs.Expressions.{comparisons}
-use Rattle.px_types.proofs.ExpressionOperators.{with_comparisons}
-use Rattle.px_types.proofs.expressions.comparisons.Given as goal
+use Rattle.px_typed_expressions.specs.Expressions.{comparisons}
+use Rattle.px_typed_expressions.proofs.ExpressionOperators.{with_comparisons}
+use Rattle.px_typed_expressions.proofs.expressions.comparisons.Given as goal
 
 -- the comparisons so far, with those of the parts that are left
 abbrev pub invariant-loop-k : goal.invariant-loop-k

@@ -4,12 +4,12 @@ ghost use Rattle.std.specs.Prelude.{◌≡◌, option_copied};
 ghost use Rattle.px_typed_walk.specs.TypedView.{rose_of_typed};
 ghost use Rattle.px_operators.specs.Outcomes.{Gives};
 ghost use Rattle.px_operators.specs.Operators.{of_common};
-ghost use Rattle.px_types.specs.Calls.{function_call, abs_of, builtin_call, named_call};
+ghost use Rattle.px_typed_expressions.specs.Calls.{function_call, abs_of, builtin_call, named_call};
 ghost use Rattle.px_operators.specs.Kept.{parts_kept, operands_kept};
-ghost use Rattle.px_types.specs.Typers.{environment_of};
-ghost use Rattle.px_types.specs.CallsKept.{head_of_extreme};
+ghost use Rattle.px_typed_expressions.specs.Typers.{environment_of};
+ghost use Rattle.px_typed_expressions.specs.CallsKept.{head_of_extreme};
 
-use crate::typer::Typer;
+use crate::typer::ExpressionTyper;
 use px_base::{Builtin, CType, Span, Trouble};
 use px_ctypes::promoted;
 use px_environments::Signature;
@@ -115,7 +115,7 @@ fn builtin_call(
     }
 }
 
-impl<'a> Typer<'a> {
+impl<'a> ExpressionTyper<'a> {
     /// A call of what a name stands for.
     pub(crate) fn named_call(
         &self,

@@ -9,7 +9,7 @@ use Rattle.px_walk.specs.Roses.{head_of}
 use Rattle.px_walk.specs.ExprView.{Tree}
 use Rattle.px_names.proofs.PartLoops.{drop_whole, drop_one, nothing_behind}
 use Rattle.px_operators.specs.Outcomes.{Outcome, mapped, unbuilt}
-use Rattle.px_types.specs.Expressions.{operator_of, operators, listed_comparison, comparison_in, comparisons}
+use Rattle.px_typed_expressions.specs.Expressions.{operator_of, operators, listed_comparison, comparison_in, comparisons}
 
 pub append_none : {A : Type 0} (xs : List A) → xs ++ [] ≡ xs
 append_none [] = refl

@@ -3,9 +3,9 @@ use Rattle.px_walk.specs.HeadForms.{form_of}
 use Rattle.px_walk.specs.Nodes.{rose_of}
 use Rattle.px_walk.specs.Roses.{head_of, number_of, at_of, parts_of}
 use Rattle.px_operators.specs.Kept.{parts_kept, operands_kept}
-use Rattle.px_types.specs.Typers.{environment_of}
-use Rattle.px_types.proofs.ExpressionLogic.{and_gives, or_gives}
-use Rattle.px_types.proofs.typer.Typer.expression_of.Goals as goal
+use Rattle.px_typed_expressions.specs.Typers.{environment_of}
+use Rattle.px_typed_expressions.proofs.ExpressionLogic.{and_gives, or_gives}
+use Rattle.px_typed_expressions.proofs.typer.ExpressionTyper.expression_of.Goals as goal
 
 pub returns-in_ok-operands-in-And : goal.returns-in_ok-operands-in-And
 returns-in_ok-operands-in-And c =

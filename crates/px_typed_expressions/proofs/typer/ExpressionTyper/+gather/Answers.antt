@@ -8,13 +8,13 @@ use Rattle.px_typed_walk.specs.TypedView.{TypedRose, rose_of_typed}
 use Rattle.px_operators.specs.Outcomes.{Outcome, Gives, only, flat}
 use Rattle.px_operators.specs.Kept.{parts_kept}
 use Rattle.px_environments.specs.Atoms.{atom_meaning, is_value}
-use Rattle.px_types.specs.Calls.{first_call}
-use Rattle.px_types.specs.Expressions.{expression_of, operands_below}
-use Rattle.px_types.specs.ExpressionsKept.{outcomes_each}
-use Rattle.px_types.specs.Typers.{environment_of}
-use Rattle.px_types.proofs.ExpressionParts.{of_row, of_name, of_between, of_composed, parts_first, parts_more, parts_last, range_operands, value_row_operands}
-use Rattle.px_types.proofs.ExpressionRows.{row_value, row_called, row_alone, row_none, behind_more, behind_last, behind_step, value_gives, call_gives}
-use Rattle.px_types.proofs.typer.Typer.+gather.Goals as goal
+use Rattle.px_typed_expressions.specs.Calls.{first_call}
+use Rattle.px_typed_expressions.specs.Expressions.{expression_of, operands_below}
+use Rattle.px_typed_expressions.specs.ExpressionsKept.{outcomes_each}
+use Rattle.px_typed_expressions.specs.Typers.{environment_of}
+use Rattle.px_typed_expressions.proofs.ExpressionParts.{of_row, of_name, of_between, of_composed, parts_first, parts_more, parts_last, range_operands, value_row_operands}
+use Rattle.px_typed_expressions.proofs.ExpressionRows.{row_value, row_called, row_alone, row_none, behind_more, behind_last, behind_step, value_gives, call_gives}
+use Rattle.px_typed_expressions.proofs.typer.ExpressionTyper.+gather.Goals as goal
 
 -- ---- behind
 

@@ -11,8 +11,8 @@ use Rattle.px_operators.specs.Outcomes.{Outcome, misfit, missing}
 use Rattle.px_environments.specs.Environments.{Environment}
 use Rattle.px_names.specs.declared.meanings.Meaning.{Meaning}
 use Rattle.px_environments.specs.Atoms.{is_value}
-use Rattle.px_types.specs.Calls.{Trailer}
-use Rattle.px_types.specs.Expressions.{name_of, operands_below}
+use Rattle.px_typed_expressions.specs.Calls.{Trailer}
+use Rattle.px_typed_expressions.specs.Expressions.{name_of, operands_below}
 
 abbrev pub outcomes_each : Environment → List Tree → List (List (Outcome TypedRose))
 outcomes_each environment parts = map (operands_below environment) parts

@@ -14,7 +14,7 @@ use Rattle.px_operators.specs.Outcomes.{Outcome, Gives, followed}
 use Rattle.px_operators.specs.Operators.{Operand, operands, logic_of}
 use Rattle.px_operators.specs.OperatorsKept.{head_of_logic}
 use Rattle.px_environments.specs.Environments.{Environment}
-use Rattle.px_types.specs.Expressions.{expression_of}
+use Rattle.px_typed_expressions.specs.Expressions.{expression_of}
 
 pub and_gives : (environment : Environment) (f : Form) (made : Result TypedTree Trouble) (number numbered : ℕ) (place at : Span) (parts : List Tree) (outcomes : List (Outcome TypedRose)) (taken : List Operand)
     → f ≡ form.And → operands outcomes ≡ Ok taken → number ≡ numbered → place ≡ at

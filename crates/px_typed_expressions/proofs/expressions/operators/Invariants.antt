@@ -1,8 +1,8 @@
 use Rattle.std.proofs.Common.{◌≡◌, ◌++◌, drop}
 use Rattle.px_walk.specs.Nodes.{rose_of}
 use Rattle.px_walk.specs.Roses.{parts_of}
-use Rattle.px_types.specs.Expressions.{operators}
-use Rattle.px_types.proofs.expressions.operators.Given as goal
+use Rattle.px_typed_expressions.specs.Expressions.{operators}
+use Rattle.px_typed_expressions.proofs.expressions.operators.Given as goal
 
 -- the operators so far, with those of the parts that are left
 abbrev pub invariant-loop-k : goal.invariant-loop-k

@@ -22,7 +22,7 @@ use Rattle.px_environments.specs.Environments.{Environment}
 use Rattle.px_operators.specs.Conversions.{fitted}
 use Rattle.px_operators.specs.Operators.{operands, unary_of, chain_of, comparison_of, logic_of, not_of, conditional_of}
 use Rattle.px_environments.specs.Atoms.{c_comparison, is_value, is_long, is_range_row}
-use Rattle.px_types.specs.Calls.{row_of}
+use Rattle.px_typed_expressions.specs.Calls.{row_of}
 
 abbrev pub number_of_type : ℤ → ℕ → Span → Outcome TypedRose
 number_of_type n number at = if is_long n then Ok (typed_node (head.Literal c.Long n) number at []) else unbuilt at

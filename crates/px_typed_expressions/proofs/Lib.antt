@@ -1,0 +1,4 @@
+pub mod ExpressionLogic
+pub mod ExpressionOperators
+pub mod ExpressionParts
+pub mod ExpressionRows

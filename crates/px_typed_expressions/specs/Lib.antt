@@ -1,0 +1,5 @@
+pub mod Calls
+pub mod CallsKept
+pub mod Expressions
+pub mod ExpressionsKept
+pub mod Typers
