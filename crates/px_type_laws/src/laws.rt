@@ -17,8 +17,9 @@ ghost use Rattle.px_type_laws.specs.BareStatements.{bare_statement};
 ghost use Rattle.px_type_laws.specs.BareModules.{erased_function, erased_module, bare_function, bare_module};
 
 /// A typed tree without the conversions that the rules of types ask for, the values that are read again, and the steps into which
-/// operators are taken apart is the tree that was parsed, each node with its number and its place, but for what its names and written
-/// types stand for. So the phase of types changes nothing else.
+/// operators are taken apart is the tree that was parsed, each node with its number and its place, where names and written types are
+/// what they stand for. Written types and names that are called have the number 0 and the place of what they are part of; the names of
+/// `global` and the groups of declarations are left out on both sides.
 pub fn erasing_gives_the_parse_tree_back()
     ensures expressions { (environment : Environment) (tree : Tree) (typed : TypedRose) →
         expression environment tree ≡ Ok typed → erased typed ≡ bare environment tree }
