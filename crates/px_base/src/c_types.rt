@@ -1,5 +1,5 @@
 /// A C integer type, or Cython's `bint`. Widths are those of LP64.
-#[derive(Clone, Copy, Debug, PartialEq, Eq)]
+#[derive(Clone, Copy, PartialEq, Eq)]
 pub enum CType {
     /// `signed char`, 8 bits.
     SChar,
@@ -32,7 +32,7 @@ pub enum CType {
 }
 
 /// A binary operator on whole numbers.
-#[derive(Clone, Copy, Debug, PartialEq, Eq)]
+#[derive(Clone, Copy, PartialEq, Eq)]
 pub enum BinOp {
     Add,
     Sub,
@@ -51,7 +51,7 @@ pub enum BinOp {
 }
 
 /// A unary operator on whole numbers.
-#[derive(Clone, Copy, Debug, PartialEq, Eq)]
+#[derive(Clone, Copy, PartialEq, Eq)]
 pub enum UnOp {
     Plus,
     Minus,

@@ -37,7 +37,7 @@ pub enum Builtin {
 }
 
 /// A constant that the code of a module names.
-#[derive(Debug, Drop)]
+#[derive(Drop)]
 pub enum Constant {
     Text(Chars),
     /// A whole number of 2^63 or more, below 2^127.

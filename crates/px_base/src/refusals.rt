@@ -1,14 +1,14 @@
 use std::alloc::{AllocError, AllocFailed};
 
 /// A place in a text: its line and its column in characters, both from 1.
-#[derive(Clone, Copy, Debug, PartialEq, Eq)]
+#[derive(Clone, Copy, PartialEq, Eq)]
 pub struct Span {
     pub line: u32,
     pub column: u32,
 }
 
 /// A broken rule of the language: its number, E1 to E28, and its place.
-#[derive(Clone, Copy, Debug, PartialEq, Eq)]
+#[derive(Clone, Copy, PartialEq, Eq)]
 pub struct Refusal {
     pub number: u8,
     pub line: u32,
@@ -16,7 +16,7 @@ pub struct Refusal {
 }
 
 /// There was no memory for the answer.
-#[derive(Clone, Copy, Debug, PartialEq, Eq)]
+#[derive(Clone, Copy, PartialEq, Eq)]
 pub struct NoMemory;
 
 impl From<AllocError> for NoMemory {
@@ -32,11 +32,11 @@ impl<T: Drop> From<AllocFailed<T>> for NoMemory {
 }
 
 /// A file or a stream of the outside failed.
-#[derive(Clone, Copy, Debug, PartialEq, Eq)]
+#[derive(Clone, Copy, PartialEq, Eq)]
 pub struct Failed;
 
 /// Why a phase of the compiler gives no result.
-#[derive(Clone, Copy, Debug, PartialEq, Eq)]
+#[derive(Clone, Copy, PartialEq, Eq)]
 pub enum Trouble {
     /// The text breaks this rule, and none that comes before it.
     Refused(Refusal),

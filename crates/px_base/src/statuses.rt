@@ -1,5 +1,5 @@
 /// How a command ended; `status as u8` is the program's exit status.
-#[derive(Clone, Copy, Debug, PartialEq, Eq)]
+#[derive(Clone, Copy, PartialEq, Eq)]
 pub enum Status {
     /// The module ran to its end, or another command did its work.
     Done,

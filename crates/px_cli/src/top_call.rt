@@ -10,7 +10,7 @@ use px_base::{Gate, Library, NoMemory, Sink, Source, Status};
 use std::alloc::Global;
 
 /// What a call of the program tells beside the bytes that it wrote.
-#[derive(Clone, Copy, Debug, PartialEq, Eq)]
+#[derive(Clone, Copy, PartialEq, Eq)]
 pub struct Report {
     pub status: Status,
 }

@@ -4,7 +4,7 @@ ghost use Rattle.px_cli.specs.Writing.{IsWritten};
 use px_base::{Sink, SinkTrouble};
 
 /// How the writing of a text ended.
-#[derive(Clone, Copy, Debug, PartialEq, Eq)]
+#[derive(Clone, Copy, PartialEq, Eq)]
 pub enum Wrote {
     /// The sink took all of it.
     All,

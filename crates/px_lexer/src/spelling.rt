@@ -1,5 +1,5 @@
 /// A word that is no identifier (Python Language Reference, 2.3.1 Keywords).
-#[derive(Clone, Copy, Debug, PartialEq, Eq)]
+#[derive(Clone, Copy, PartialEq, Eq)]
 pub enum Keyword {
     False,
     None,
@@ -34,7 +34,7 @@ pub enum Keyword {
 }
 
 /// An operator or a delimiter (Python Language Reference, 2.5 Operators and 2.6 Delimiters).
-#[derive(Clone, Copy, Debug, PartialEq, Eq)]
+#[derive(Clone, Copy, PartialEq, Eq)]
 pub enum Operator {
     /// `+`
     Plus,

@@ -2,7 +2,7 @@ use crate::spelling::{Keyword, Operator};
 use px_base::{Bytes, Chars, Sequence, Span};
 
 /// What a token is (Python Language Reference, 2.1.1 Logical lines and 2.2 Other tokens).
-#[derive(Debug, Drop)]
+#[derive(Drop)]
 pub enum TokenKind {
     /// An identifier; its spelling is the name.
     Name,

@@ -1,5 +1,6 @@
 //! Rows of what the lexer gives.
 use crate::rows::Row;
+use crate::spelling_names::{name_of_keyword, name_of_operator};
 use px_base::{Bytes, Span};
 use px_lexer::lexing::tokens;
 use px_lexer::{TokenKind, Tokens};
@@ -19,12 +20,14 @@ fn show_kind(row: &mut Row, kind: &TokenKind) {
             row.word(")");
         }
         TokenKind::Keyword(keyword) => {
-            let text = format!(in row.alloc(); "Keyword({keyword:?})");
-            row.text(text);
+            row.word("Keyword(");
+            row.word(name_of_keyword(*keyword));
+            row.word(")");
         }
         TokenKind::Operator(operator) => {
-            let text = format!(in row.alloc(); "Operator({operator:?})");
-            row.text(text);
+            row.word("Operator(");
+            row.word(name_of_operator(*operator));
+            row.word(")");
         }
         TokenKind::Foreign => row.word("Foreign"),
         TokenKind::Newline => row.word("Newline"),

@@ -21,6 +21,7 @@ mod rows;
 mod scripted_sinks;
 mod scripted_streams;
 mod sections;
+mod spelling_names;
 mod statement_parts;
 mod value_rows;
 
