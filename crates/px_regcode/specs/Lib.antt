@@ -1,0 +1,14 @@
+pub mod Words
+pub mod Listing
+pub mod OperandWords
+pub mod InstructionGroups
+pub mod Images
+pub mod Effects
+pub mod Operands
+pub mod Facts
+pub mod Shapes
+pub mod Paths
+pub mod Plans
+pub mod Formed
+pub mod Tables
+pub mod Listed
