@@ -1,0 +1,16 @@
+pub mod Trees
+pub mod Examples
+pub mod ExpressionExamples
+pub mod StatementExamples
+pub mod FrameExamples
+pub mod WorldExamples
+pub mod Runs
+pub mod Alike
+pub mod AlikeExpressions
+pub mod AlikeStatements
+pub mod MoreTurns
+pub mod Whole
+pub mod Plain
+pub mod JournalExamples
+pub mod LawfulExamples
+pub mod InTurn

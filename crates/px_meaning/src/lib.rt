@@ -1,0 +1,4 @@
+//! What modules mean.
+#![tactic(auto)]
+
+pub mod laws;
