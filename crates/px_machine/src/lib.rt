@@ -1,0 +1,4 @@
+//! The machine of register code.
+#![tactic(auto)]
+
+pub mod laws;
