@@ -1,0 +1,4 @@
+pub mod Settings
+pub mod Fine
+pub mod FineStatements
+pub mod Compiled

@@ -1,0 +1,6 @@
+//! That the code of a module means the module, as the contract of a function that does nothing.
+#![tactic(auto)]
+
+mod laws;
+
+pub use laws::code_means_its_module;

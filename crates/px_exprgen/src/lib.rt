@@ -1,0 +1,2 @@
+//! The code of expressions.
+#![tactic(auto)]

@@ -1,0 +1,2 @@
+//! The code of statements and functions.
+#![tactic(auto)]
