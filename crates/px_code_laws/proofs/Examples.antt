@@ -17,7 +17,7 @@ use Rattle.px_regcode.specs.Images.{ImageParts}
 use Rattle.px_meaning.specs.Calls.{SourceFunction, Source}
 use Rattle.px_meaning.proofs.Trees.{node, long, local, given, binary, print, print_long, box, alone, call, declare, function, a_module}
 use Rattle.px_exprgen.specs.ExpressionCode.{register, expression_code, code_by}
-use Rattle.px_stmtgen.specs.Layouts.{Layout}
+use Rattle.px_stmtgen.specs.declared.layouts.Layout.{Layout}
 use Rattle.px_stmtgen.specs.StatementCode.{statement_code, statement_by}
 use Rattle.px_stmtgen.specs.FunctionCode.{function_code}
 use Rattle.px_machine.specs.Means.{Means}

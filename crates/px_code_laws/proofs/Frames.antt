@@ -23,7 +23,8 @@ use Rattle.px_meaning.specs.Objects.{new_object}
 use Rattle.px_meaning.specs.Expressions.{Context}
 use Rattle.px_meaning.specs.Statements.{in_turn, exec}
 use Rattle.px_exprgen.specs.ExpressionCode.{register}
-use Rattle.px_stmtgen.specs.Layouts.{Layout, ending_code}
+use Rattle.px_stmtgen.specs.declared.layouts.Layout.{Layout}
+use Rattle.px_stmtgen.specs.Layouts.{ending_code}
 use Rattle.px_stmtgen.specs.StatementCode.{in_turn_code, statement_code}
 use Rattle.px_machine.specs.Slots.{Slot, empty, whole}
 use Rattle.px_machine.specs.Steps.{Step, went}

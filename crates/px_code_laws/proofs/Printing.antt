@@ -26,7 +26,8 @@ use Rattle.px_meaning.specs.Objects as source
 use Rattle.px_meaning.specs.Expressions.{Context, Scope, each, eval, evaluations, eval_by, converted_by, printing}
 use Rattle.px_meaning.specs.Statements.{Execution}
 use Rattle.px_exprgen.specs.ExpressionCode.{register, part_code, expression_codes, width, widths, widest}
-use Rattle.px_stmtgen.specs.Layouts.{Layout, registers_from, drops, ending_code}
+use Rattle.px_stmtgen.specs.declared.layouts.Layout.{Layout}
+use Rattle.px_stmtgen.specs.Layouts.{registers_from, drops, ending_code}
 use Rattle.px_stmtgen.specs.StatementCode.{StatementEmission, count_of, boxed_code, argument_code, arguments_code, print_code}
 use Rattle.px_machine.specs.Slots.{Slot, empty, whole, object, view, fault, Member, slot_of, storing}
 use Rattle.px_machine.specs.Slots as Slots

@@ -22,7 +22,7 @@ use Rattle.px_meaning.specs.Ends.{Ends, gives, on_value, Flow, next, continues, 
 use Rattle.px_meaning.specs.Expressions.{Context, Scope, giving, eval, eval_by}
 use Rattle.px_meaning.specs.Statements.{Execution, Branch, in_turn, dropped, exec_by, exec, executions, branches_of, assign_local, assign_to}
 use Rattle.px_exprgen.specs.ExpressionCode.{register, behind, expression_code, width}
-use Rattle.px_stmtgen.specs.Layouts.{Layout}
+use Rattle.px_stmtgen.specs.declared.layouts.Layout.{Layout}
 use Rattle.px_stmtgen.specs.StatementCode.{StatementEmission, call_code, alone_code, set_code, target_code, statement_width, statement_widths, statement_width_by, alone_width, in_turn_code, statement_by, statement_code, statement_codes}
 use Rattle.px_machine.specs.Slots.{Slot, whole}
 use Rattle.px_machine.specs.Steps.{Step}

@@ -8,7 +8,7 @@ use Rattle.px_regcode.specs.declared.codes.Code.{Code}
 use Rattle.px_regcode.specs.Images.{ImageParts}
 use Rattle.px_meaning.specs.Calls.{SourceFunction, Source, swallows}
 use Rattle.px_machine.specs.Means.{IsCodeOf}
-use Rattle.px_stmtgen.specs.Layouts.{Layout}
+use Rattle.px_stmtgen.specs.declared.layouts.Layout.{Layout}
 use Rattle.px_stmtgen.specs.StatementCode.{statement_width}
 use Rattle.px_stmtgen.specs.FunctionCode.{function_code}
 use Rattle.px_code_laws.specs.FineStatements.{Surrounding, FineEnd, IsFineStatement}

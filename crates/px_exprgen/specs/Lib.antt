@@ -1,1 +1,2 @@
 pub mod ExpressionCode
+pub mod Places

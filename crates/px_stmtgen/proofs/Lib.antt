@@ -1,0 +1,9 @@
+mod Appending
+mod Bodies
+mod Cleanups
+mod PartCode
+mod Parts
+mod Ranges
+mod Roses
+mod StatementHeads
+mod Wholes

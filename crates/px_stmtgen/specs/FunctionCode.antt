@@ -4,7 +4,8 @@ use Rattle.px_typed_walk.specs.TypedView.{TypedRose}
 use Rattle.px_regcode.specs.declared.instructions.Instr.{Instr}
 use Rattle.px_regcode.specs.declared.instructions.Instr.TheVariants as instr
 use Rattle.px_exprgen.specs.ExpressionCode.{register, behind}
-use Rattle.px_stmtgen.specs.Layouts.{Layout, drops, ending_code}
+use Rattle.px_stmtgen.specs.declared.layouts.Layout.{Layout}
+use Rattle.px_stmtgen.specs.Layouts.{drops, ending_code}
 use Rattle.px_stmtgen.specs.StatementCode.{StatementEmission, in_turn_code, statement_code}
 
 -- variables of C types begin as 0

@@ -7,13 +7,7 @@ use Rattle.px_regcode.specs.declared.operands.Register.{Register}
 use Rattle.px_regcode.specs.declared.instructions.Instr.{Instr}
 use Rattle.px_regcode.specs.declared.instructions.Instr.TheVariants as instr
 use Rattle.px_exprgen.specs.ExpressionCode.{register}
-
-pub record Layout : Type 0 where
-  pub variables : ℕ
-  pub objects : ℕ
-  pub gives : ValueType
-  -- the place of None among the constants
-  pub none_at : ℕ
+use Rattle.px_stmtgen.specs.declared.layouts.Layout.{Layout}
 
 -- the first register behind those of variables and objects
 abbrev pub temporary : Layout → ℕ

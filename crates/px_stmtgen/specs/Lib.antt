@@ -1,3 +1,4 @@
 pub mod Layouts
 pub mod StatementCode
 pub mod FunctionCode
+pub mod Sizes

@@ -11,7 +11,8 @@ use Rattle.px_typed_walk.specs.TypedView.{TypedRose}
 use Rattle.px_regcode.specs.declared.instructions.Instr.{Instr}
 use Rattle.px_regcode.specs.declared.instructions.Instr.TheVariants as instr
 use Rattle.px_exprgen.specs.ExpressionCode.{register, behind, part_code, expression_code, expression_codes, width, widest}
-use Rattle.px_stmtgen.specs.Layouts.{Layout, temporary, registers_from, drops, ending_code}
+use Rattle.px_stmtgen.specs.declared.layouts.Layout.{Layout}
+use Rattle.px_stmtgen.specs.Layouts.{temporary, registers_from, drops, ending_code}
 
 -- the code of a statement, by the number of its first instruction
 abbrev pub StatementEmission : Type 0
