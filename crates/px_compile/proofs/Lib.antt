@@ -1,0 +1,5 @@
+mod Parts
+mod StatementParts
+mod FineFits
+mod FineStatementFits
+mod ModuleFits

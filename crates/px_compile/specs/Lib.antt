@@ -1,0 +1,4 @@
+pub mod Fits
+pub mod FitStatements
+pub mod FitModules
+pub mod ModuleImage
