@@ -1,0 +1,15 @@
+mod Making
+mod Maps
+mod Changing
+mod Chains
+mod Drops
+mod Freeings
+mod HeapLaws
+mod HeldSteps
+mod Keeping
+mod Lowerings
+mod Methods
+mod Releases
+mod Removals
+mod Sums
+mod StoreSteps
