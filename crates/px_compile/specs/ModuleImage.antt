@@ -1,11 +1,10 @@
--- The image of a module: the code of module code and of its functions.
-use Rattle.std.specs.Prelude.{ℕ, suc, ◌+◌, ◌-◌, max, Bool, false, if◌then◌else◌, List, [], ◌∷◌, ◌++◌, length, map, take, replicate, codes}
+-- The image of a module: the code of module code and of its functions. Module code has line 1 for what stands before its statements and
+-- behind them.
+use Rattle.std.specs.Prelude.{ℕ, suc, max, false, if◌then◌else◌, List, [], ◌∷◌, length, map, take, codes}
 use Rattle.px_base.specs.declared.objects.Constant.{Constant}
 use Rattle.px_tree.specs.declared.typed_values.ValueType.{ValueType}
 use Rattle.px_tree.specs.declared.typed_values.ValueType.TheVariants as type
-use Rattle.px_tree.specs.declared.typed_heads.TypedHead.{TypedHead}
 use Rattle.px_types.specs.TypedModule.{FunctionTypes, ModuleTypes}
-use Rattle.px_walk.specs.Roses.{at_of}
 use Rattle.px_typed_walk.specs.TypedView.{TypedRose}
 use Rattle.px_regcode.specs.declared.codes.Code.{Code}
 use Rattle.px_regcode.specs.declared.codes.Start.TheVariants as start
@@ -14,9 +13,7 @@ use Rattle.px_regcode.specs.Images.{ImageParts, image_of}
 use Rattle.px_meaning.specs.Calls.{SourceFunction, Source, swallows}
 use Rattle.px_machine.specs.Means.{kind_of, start_of}
 use Rattle.px_stmtgen.specs.declared.layouts.Layout.{Layout}
-use Rattle.px_stmtgen.specs.Layouts.{ending_code}
-use Rattle.px_stmtgen.specs.StatementCode.{statement_code}
-use Rattle.px_stmtgen.specs.FunctionCode.{prologue, zeros, function_code}
+use Rattle.px_stmtgen.specs.FunctionCode.{function_code, function_lines}
 use Rattle.px_stmtgen.specs.Sizes.{objects, result_objects, greatest, registers}
 use Rattle.px_compile.specs.Fits.{types_of_locals}
 use Rattle.px_compile.specs.FitModules.{is_none}
@@ -33,24 +30,6 @@ objects_for gives body = max (result_objects gives) (greatest objects body)
 abbrev pub layout_for : List ValueType → ValueType → List Constant → List TypedRose → Layout
 layout_for locals gives constants body =
     record { variables = length locals; objects = objects_for gives body; gives = gives; none_at = none_place constants }
-
--- ---- lines
-
--- for each instruction of statements one behind another the line on which the statement begins
-abbrev pub lines_in_turn : Layout → List TypedRose → ℕ → List ℕ
-lines_in_turn l [] pc = []
-lines_in_turn l (tree ∷ trees) pc =
-    replicate (length (statement_code l tree pc)) (at_of tree).line ++ lines_in_turn l trees (pc + length (statement_code l tree pc))
-
--- where the statements of a function begin
-abbrev pub body_start : Layout → ℕ → Bool → ℕ
-body_start l params swallowed = length (prologue l swallowed ++ zeros params (l.variables - params))
-
--- What stands before the statements and behind them stems from the header, or in module code from line 1.
-abbrev pub function_lines : Layout → ℕ → ℕ → Bool → List TypedRose → List ℕ
-function_lines l line params swallowed body =
-    replicate (body_start l params swallowed) line
-    ++ (lines_in_turn l body (body_start l params swallowed) ++ replicate (length (ending_code l l.gives)) line)
 
 -- ---- codes
 

@@ -7,3 +7,4 @@ mod Ranges
 mod Roses
 mod StatementHeads
 mod Wholes
+mod Lines

@@ -27,6 +27,13 @@ printed (Ok x) l trees before first second after registers count f g n s e =
     ∙ ap (λ m. before ++ (a ++ (instr.Print (registers_from v m) ∷ drops v m))) (n ∙ sym (count_gathered trees))
 printed (Err x) l trees before first second after registers count f g n s e = tt
 
+-- what stands before the statements
+pub front_is : (l : Layout) (params : ℕ) (swallows : Bool) (empty first second : List Instr) (count : ℕ)
+    → empty ≡ [] → first ≡ empty ++ prologue l swallows → count ≡ l.variables - params → second ≡ first ++ zeros params count
+    → second ≡ prologue l swallows ++ zeros params (l.variables - params)
+front_is l params swallows empty first second count none f n s =
+    s ∙ ap (λ xs. xs ++ zeros params count) (f ∙ ap (λ xs. xs ++ prologue l swallows) none) ∙ ap (λ m. prologue l swallows ++ zeros params m) n
+
 pub whole_function : (l : Layout) (params : ℕ) (swallows : Bool) (body : List TypedRose) (empty first second third last : List Instr) (count : ℕ)
     → empty ≡ [] → first ≡ empty ++ prologue l swallows → count ≡ l.variables - params → second ≡ first ++ zeros params count
     → third ≡ second ++ in_turn_code (map (statement_code l) body) (length second) → last ≡ third ++ ending_code l l.gives

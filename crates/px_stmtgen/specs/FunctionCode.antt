@@ -1,5 +1,6 @@
 -- The code of functions and of module code.
-use Rattle.std.specs.Prelude.{ℕ, zero, suc, ◌-◌, pos, Bool, ◌||◌, nat_eq, not, if◌then◌else◌, List, [], ◌∷◌, ◌++◌, length, map}
+use Rattle.std.specs.Prelude.{ℕ, zero, suc, ◌+◌, ◌-◌, pos, Bool, ◌||◌, nat_eq, not, if◌then◌else◌, List, [], ◌∷◌, ◌++◌, length, map, replicate}
+use Rattle.px_walk.specs.Roses.{at_of}
 use Rattle.px_typed_walk.specs.TypedView.{TypedRose}
 use Rattle.px_regcode.specs.declared.instructions.Instr.{Instr}
 use Rattle.px_regcode.specs.declared.instructions.Instr.TheVariants as instr
@@ -37,3 +38,21 @@ prologue l swallows =
 unfoldable pub function_code : Layout → ℕ → Bool → List TypedRose → List Instr
 function_code l params swallows body =
     behind (prologue l swallows ++ zeros params (l.variables - params)) (body_code l body) 0
+
+-- ---- lines
+
+-- for each instruction of statements one behind another the line on which the statement begins
+abbrev pub lines_in_turn : Layout → List TypedRose → ℕ → List ℕ
+lines_in_turn l [] pc = []
+lines_in_turn l (tree ∷ trees) pc =
+    replicate (length (statement_code l tree pc)) (at_of tree).line ++ lines_in_turn l trees (pc + length (statement_code l tree pc))
+
+-- where the statements of a function begin
+abbrev pub body_start : Layout → ℕ → Bool → ℕ
+body_start l params swallows = length (prologue l swallows ++ zeros params (l.variables - params))
+
+-- What stands before the statements and behind them stems from the header, which is on this line.
+abbrev pub function_lines : Layout → ℕ → ℕ → Bool → List TypedRose → List ℕ
+function_lines l line params swallows body =
+    replicate (body_start l params swallows) line
+    ++ (lines_in_turn l body (body_start l params swallows) ++ replicate (length (ending_code l l.gives)) line)

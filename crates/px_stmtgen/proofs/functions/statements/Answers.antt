@@ -7,17 +7,17 @@ use Rattle.px_stmtgen.proofs.Parts.{statement_below}
 use Rattle.px_stmtgen.proofs.Wholes.{tree_there}
 use Rattle.px_stmtgen.proofs.functions.statements.Goals as goal
 
-pub statement-requires-clause-width : goal.statement-requires-clause-width
-statement-requires-clause-width c =
+pub with_lines-requires-clause-width : goal.with_lines-requires-clause-width
+with_lines-requires-clause-width c =
     let le = statement_below statement_width (map rose_of_typed c.args.body.now) c.loop-tree.tree-index (rose_of_typed c.tree-item.result) (tree_there c.args.body.now c.loop-tree.tree-index c.tree-item.result c.loop-tree-test.true c.tree-item.is) in
     omega (arith, c.requires.width)
 
-pub statement-requires-clause-objects : goal.statement-requires-clause-objects
-statement-requires-clause-objects c =
+pub with_lines-requires-clause-objects : goal.with_lines-requires-clause-objects
+with_lines-requires-clause-objects c =
     let le = statement_below objects (map rose_of_typed c.args.body.now) c.loop-tree.tree-index (rose_of_typed c.tree-item.result) (tree_there c.args.body.now c.loop-tree.tree-index c.tree-item.result c.loop-tree-test.true c.tree-item.is) in
     omega (arith, c.requires.objects)
 
-pub statement-requires-clause-places : goal.statement-requires-clause-places
-statement-requires-clause-places c =
+pub with_lines-requires-clause-places : goal.with_lines-requires-clause-places
+with_lines-requires-clause-places c =
     let le = statement_below places (map rose_of_typed c.args.body.now) c.loop-tree.tree-index (rose_of_typed c.tree-item.result) (tree_there c.args.body.now c.loop-tree.tree-index c.tree-item.result c.loop-tree-test.true c.tree-item.is) in
     omega (arith, c.requires.places)
