@@ -1,11 +1,13 @@
 //! From the typed tree to the image of a module.
 #![tactic(auto)]
 
+mod coding;
 mod fits;
 mod laws;
 mod modules;
 mod statements;
 mod trees;
 
+pub use coding::codes;
 pub use laws::images_mean_their_modules;
 pub use modules::unbuilt;

@@ -9,7 +9,7 @@ use crate::statements::{end_fits, unfit_among};
 use px_base::{Constant, Refusal, Span, earlier};
 use px_tree::{Local, Lock, Typed, TypedFunction, ValueType};
 
-fn is_none(what: &Constant) -> bool
+pub(crate) fn is_none(what: &Constant) -> bool
     ensures { result ≡ is_none what.now }
 {
     match what {
