@@ -1,0 +1,5 @@
+mod HeldSlots
+mod ObjectSteps
+mod MadeObjects
+mod LineTexts
+mod PrintSteps

@@ -1,0 +1,4 @@
+pub mod Slots
+pub mod Interps
+pub mod Texts
+pub mod Rows
