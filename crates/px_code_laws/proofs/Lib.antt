@@ -8,4 +8,8 @@ pub mod Frames
 pub mod Opening
 pub mod Calls
 pub mod Means
+pub mod RunningExpressions
+pub mod RunningValues
+pub mod RunningStatements
+pub mod RunningCode
 mod Examples

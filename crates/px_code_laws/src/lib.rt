@@ -2,5 +2,7 @@
 #![tactic(auto)]
 
 mod laws;
+mod running;
 
 pub use laws::code_means_its_module;
+pub use running::code_runs;

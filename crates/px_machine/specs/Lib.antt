@@ -4,3 +4,4 @@ pub mod Machine
 pub mod Follows
 pub mod Means
 pub mod OneWorld
+pub mod Running
