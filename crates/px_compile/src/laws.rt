@@ -4,12 +4,13 @@ ghost use Rattle.std.specs.Prelude.{◌≡◌, None};
 ghost use Rattle.px_tree.specs.declared.typed_modules.Typed.{Typed};
 ghost use Rattle.px_meaning.specs.Modules.{source_of};
 ghost use Rattle.px_machine.specs.Means.{Means};
+ghost use Rattle.px_machine.specs.Running.{AllRun};
 ghost use Rattle.px_code_laws.specs.Compiled.{IsCompiled};
 ghost use Rattle.px_types.specs.TypedModule.{module_kept};
 ghost use Rattle.px_compile.specs.FitModules.{unbuilt_of};
 ghost use Rattle.px_compile.specs.ModuleImage.{module_image};
 
-use px_code_laws::code_means_its_module;
+use px_code_laws::{code_means_its_module, code_runs};
 
 /// The image of a module in which nothing is without code is the code of the module, and means it.
 pub fn images_mean_their_modules()
@@ -17,4 +18,11 @@ pub fn images_mean_their_modules()
     ensures meaning { (typed : Typed) → unbuilt_of (module_kept typed) ≡ None → Means (module_image (module_kept typed)) (source_of typed) }
 {
     code_means_its_module();
+}
+
+/// The image of a module in which nothing is without code has only instructions that a member runs.
+pub fn images_run()
+    ensures { (typed : Typed) → unbuilt_of (module_kept typed) ≡ None → AllRun (module_image (module_kept typed)) }
+{
+    code_runs();
 }
