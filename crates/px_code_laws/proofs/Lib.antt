@@ -12,4 +12,10 @@ pub mod RunningExpressions
 pub mod RunningValues
 pub mod RunningStatements
 pub mod RunningCode
+pub mod Coming
+pub mod PlainExpressions
+pub mod ComingPrints
+pub mod ComingStatements
+pub mod ComingModules
+mod OutcomeExamples
 mod Examples

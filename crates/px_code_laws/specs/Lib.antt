@@ -2,3 +2,4 @@ pub mod Settings
 pub mod Fine
 pub mod FineStatements
 pub mod Compiled
+pub mod Outcomes
