@@ -18,4 +18,11 @@ pub mod ComingPrints
 pub mod ComingStatements
 pub mod ComingModules
 mod OutcomeExamples
+pub mod Straight
+pub mod NumberSteps
+pub mod ObjectSteps
+pub mod FormedExpressions
+pub mod FormedStates
+pub mod FormedPrinting
+pub mod FormedStatements
 mod Examples
