@@ -12,9 +12,11 @@ use Rattle.px_regcode.specs.declared.instructions.Instr.{Instr}
 use Rattle.px_regcode.specs.declared.instructions.Instr.TheVariants as instr
 use Rattle.px_regcode.specs.Images.{ImageParts}
 use Rattle.px_regcode.specs.Effects.{may_fault, reads, writes, empties, gives_whole, gives_object}
-use Rattle.px_regcode.specs.Operands.{takes}
+use Rattle.px_regcode.specs.Operands.{takes, targets}
+use Rattle.px_regcode.specs.Facts.{successors, frame_done}
 use Rattle.px_regcode.specs.Facts.{State, whole, makes, hands_on, derives, is_one_of, each_once_emptied, all_at, moved_on, left_behind}
 use Rattle.px_regcode.specs.Shapes.{IsShaped, Meets, number, something, needs}
+use Rattle.px_regcode.specs.Formed.{StandsIn}
 use Rattle.px_regcode.specs.Formed.{is_owned, owning_writes}
 use Rattle.px_regcode.proofs.Tests.{Each}
 use Rattle.px_exprgen.specs.ExpressionCode.{register}
@@ -64,120 +66,148 @@ module _ (image : ImageParts) (code : Code) (variables objects : ℕ) (handled :
   Goes i after = Step image code variables objects handled before i after
 
   pub const_step : (d : ℕ) (n : ℤ) → (neg_ℤ (pos (2 ^ 63)) ≤ℤ n) × (n ≤ℤ pos (2 ^ 64 - 1)) → d < code.registers → Plain (before d) → Goes (instr.Const (register d) n) (put d numeric before)
-  unfolding may_fault reads writes empties gives_whole gives_object takes IsShaped needs owning_writes makes hands_on derives
+  unfolding successors targets frame_done StandsIn may_fault reads writes empties gives_whole gives_object takes IsShaped needs owning_writes makes hands_on derives
   const_step d n range room plain = record {
-    named = (room, tt);
-    shaped = range;
-    given = tt;
-    asked = tt;
-    kept = (plain_free (before d) plain, tt);
-    taken = tt;
-    written = tt;
-    left = λ is r s may leaves. cc;
-    loses = λ is r s may. safe r s may;
-    faults = λ r s may. faults_as (before r) r s may;
-    made = λ is. (put_there d before, tt);
-    handed = λ is r s may. stays_as (before r) (put d numeric before) (d ∷ []) [] r s may (λ unlike. put_unchanged d r numeric before unlike);
+    goes_on = record { next = λ pc fact. refl; no_target = refl; same = λ fact. refl };
+    keeps = record {
+      ordinary = record { no_plan = refl; no_copies = refl; no_arguments = λ other n a called given. cc; no_iteration = refl; no_ticket = refl; no_enter = refl; no_leave = refl; stands = tt };
+      named = (room, tt);
+      shaped = range;
+      given = tt;
+      asked = tt;
+      kept = (plain_free (before d) plain, tt);
+      taken = tt;
+      written = tt;
+      left = λ is r s may leaves. cc;
+      loses = λ is r s may. safe r s may;
+      faults = λ r s may. faults_as (before r) r s may;
+      made = λ is. (put_there d before, tt);
+      handed = λ is r s may. stays_as (before r) (put d numeric before) (d ∷ []) [] r s may (λ unlike. put_unchanged d r numeric before unlike);
+    };
   }
 
   pub move_step : (a d : ℕ) → a < code.registers → d < code.registers → before a ≡ numeric → Plain (before d) → Goes (instr.Move (register d) (register a)) (put d numeric before)
-  unfolding may_fault reads writes empties gives_whole gives_object takes IsShaped needs owning_writes makes hands_on derives
+  unfolding successors targets frame_done StandsIn may_fault reads writes empties gives_whole gives_object takes IsShaped needs owning_writes makes hands_on derives
   move_step a d rooma room there plain = record {
-    named = (rooma, (room, tt));
-    shaped = tt;
-    given = tt;
-    asked = (is_something (before a) there, tt);
-    kept = (plain_free (before d) plain, tt);
-    taken = ((λ s may owned. absurd (not_owned s (is_whole (before a) there s may) owned)), tt);
-    written = tt;
-    left = λ is r s may leaves. cc;
-    loses = λ is r s may. safe r s may;
-    faults = λ r s may. faults_as (before r) r s may;
-    made = λ is. tt;
-    handed = λ is r s may. moves_on a d before there r s may;
+    goes_on = record { next = λ pc fact. refl; no_target = refl; same = λ fact. refl };
+    keeps = record {
+      ordinary = record { no_plan = refl; no_copies = refl; no_arguments = λ other n a called given. cc; no_iteration = refl; no_ticket = refl; no_enter = refl; no_leave = refl; stands = tt };
+      named = (rooma, (room, tt));
+      shaped = tt;
+      given = tt;
+      asked = (is_something (before a) there, tt);
+      kept = (plain_free (before d) plain, tt);
+      taken = ((λ s may owned. absurd (not_owned s (is_whole (before a) there s may) owned)), tt);
+      written = tt;
+      left = λ is r s may leaves. cc;
+      loses = λ is r s may. safe r s may;
+      faults = λ r s may. faults_as (before r) r s may;
+      made = λ is. tt;
+      handed = λ is r s may. moves_on a d before there r s may;
+    };
   }
 
   pub unary_step : (a d : ℕ) (op : UnOp) (t : CType) → t ≢ Bint → a < code.registers → d < code.registers → before a ≡ numeric → Plain (before d) → Goes (instr.Unary op t (register d) (register a)) (put d numeric before)
-  unfolding may_fault reads writes empties gives_whole gives_object takes IsShaped needs owning_writes makes hands_on derives
+  unfolding successors targets frame_done StandsIn may_fault reads writes empties gives_whole gives_object takes IsShaped needs owning_writes makes hands_on derives
   unary_step a d op t other rooma room there plain = record {
-    named = (rooma, (room, tt));
-    shaped = other;
-    given = tt;
-    asked = (is_number (before a) there, tt);
-    kept = (plain_free (before d) plain, tt);
-    taken = tt;
-    written = tt;
-    left = λ is r s may leaves. cc;
-    loses = λ is r s may. safe r s may;
-    faults = λ r s may. faults_as (before r) r s may;
-    made = λ is. (put_there d before, tt);
-    handed = λ is r s may. stays_as (before r) (put d numeric before) (d ∷ []) [] r s may (λ unlike. put_unchanged d r numeric before unlike);
+    goes_on = record { next = λ pc fact. refl; no_target = refl; same = λ fact. refl };
+    keeps = record {
+      ordinary = record { no_plan = refl; no_copies = refl; no_arguments = λ other n a called given. cc; no_iteration = refl; no_ticket = refl; no_enter = refl; no_leave = refl; stands = tt };
+      named = (rooma, (room, tt));
+      shaped = other;
+      given = tt;
+      asked = (is_number (before a) there, tt);
+      kept = (plain_free (before d) plain, tt);
+      taken = tt;
+      written = tt;
+      left = λ is r s may leaves. cc;
+      loses = λ is r s may. safe r s may;
+      faults = λ r s may. faults_as (before r) r s may;
+      made = λ is. (put_there d before, tt);
+      handed = λ is r s may. stays_as (before r) (put d numeric before) (d ∷ []) [] r s may (λ unlike. put_unchanged d r numeric before unlike);
+    };
   }
 
   pub convert_step : (a d : ℕ) (t : CType) → a < code.registers → d < code.registers → before a ≡ numeric → Plain (before d) → Goes (instr.Convert t (register d) (register a)) (put d numeric before)
-  unfolding may_fault reads writes empties gives_whole gives_object takes IsShaped needs owning_writes makes hands_on derives
+  unfolding successors targets frame_done StandsIn may_fault reads writes empties gives_whole gives_object takes IsShaped needs owning_writes makes hands_on derives
   convert_step a d t rooma room there plain = record {
-    named = (rooma, (room, tt));
-    shaped = tt;
-    given = tt;
-    asked = (is_number (before a) there, tt);
-    kept = (plain_free (before d) plain, tt);
-    taken = tt;
-    written = tt;
-    left = λ is r s may leaves. cc;
-    loses = λ is r s may. safe r s may;
-    faults = λ r s may. faults_as (before r) r s may;
-    made = λ is. (put_there d before, tt);
-    handed = λ is r s may. stays_as (before r) (put d numeric before) (d ∷ []) [] r s may (λ unlike. put_unchanged d r numeric before unlike);
+    goes_on = record { next = λ pc fact. refl; no_target = refl; same = λ fact. refl };
+    keeps = record {
+      ordinary = record { no_plan = refl; no_copies = refl; no_arguments = λ other n a called given. cc; no_iteration = refl; no_ticket = refl; no_enter = refl; no_leave = refl; stands = tt };
+      named = (rooma, (room, tt));
+      shaped = tt;
+      given = tt;
+      asked = (is_number (before a) there, tt);
+      kept = (plain_free (before d) plain, tt);
+      taken = tt;
+      written = tt;
+      left = λ is r s may leaves. cc;
+      loses = λ is r s may. safe r s may;
+      faults = λ r s may. faults_as (before r) r s may;
+      made = λ is. (put_there d before, tt);
+      handed = λ is r s may. stays_as (before r) (put d numeric before) (d ∷ []) [] r s may (λ unlike. put_unchanged d r numeric before unlike);
+    };
   }
 
   pub magnitude_step : (a d : ℕ) (t : CType) → t ≢ Bint → a < code.registers → d < code.registers → before a ≡ numeric → Plain (before d) → Goes (instr.Magnitude t (register d) (register a)) (put d numeric before)
-  unfolding may_fault reads writes empties gives_whole gives_object takes IsShaped needs owning_writes makes hands_on derives
+  unfolding successors targets frame_done StandsIn may_fault reads writes empties gives_whole gives_object takes IsShaped needs owning_writes makes hands_on derives
   magnitude_step a d t other rooma room there plain = record {
-    named = (rooma, (room, tt));
-    shaped = other;
-    given = tt;
-    asked = (is_number (before a) there, tt);
-    kept = (plain_free (before d) plain, tt);
-    taken = tt;
-    written = tt;
-    left = λ is r s may leaves. cc;
-    loses = λ is r s may. safe r s may;
-    faults = λ r s may. faults_as (before r) r s may;
-    made = λ is. (put_there d before, tt);
-    handed = λ is r s may. stays_as (before r) (put d numeric before) (d ∷ []) [] r s may (λ unlike. put_unchanged d r numeric before unlike);
+    goes_on = record { next = λ pc fact. refl; no_target = refl; same = λ fact. refl };
+    keeps = record {
+      ordinary = record { no_plan = refl; no_copies = refl; no_arguments = λ other n a called given. cc; no_iteration = refl; no_ticket = refl; no_enter = refl; no_leave = refl; stands = tt };
+      named = (rooma, (room, tt));
+      shaped = other;
+      given = tt;
+      asked = (is_number (before a) there, tt);
+      kept = (plain_free (before d) plain, tt);
+      taken = tt;
+      written = tt;
+      left = λ is r s may leaves. cc;
+      loses = λ is r s may. safe r s may;
+      faults = λ r s may. faults_as (before r) r s may;
+      made = λ is. (put_there d before, tt);
+      handed = λ is r s may. stays_as (before r) (put d numeric before) (d ∷ []) [] r s may (λ unlike. put_unchanged d r numeric before unlike);
+    };
   }
 
   pub binary_step : (a b d : ℕ) (op : BinOp) (t : CType) (truncates : Bool) → t ≢ Bint → a < code.registers → b < code.registers → d < code.registers → before a ≡ numeric → before b ≡ numeric → Plain (before d) → Goes (instr.Binary op t (register d) (register a) (register b) truncates) (put d numeric before)
-  unfolding may_fault reads writes empties gives_whole gives_object takes IsShaped needs owning_writes makes hands_on derives
+  unfolding successors targets frame_done StandsIn may_fault reads writes empties gives_whole gives_object takes IsShaped needs owning_writes makes hands_on derives
   binary_step a b d op t truncates other rooma roomb room there there2 plain = record {
-    named = (rooma, (roomb, (room, tt)));
-    shaped = other;
-    given = tt;
-    asked = (is_number (before a) there, (is_number (before b) there2, tt));
-    kept = (plain_free (before d) plain, tt);
-    taken = tt;
-    written = tt;
-    left = λ is r s may leaves. cc;
-    loses = λ is r s may. safe r s may;
-    faults = λ r s may. faults_as (before r) r s may;
-    made = λ is. (put_there d before, tt);
-    handed = λ is r s may. stays_as (before r) (put d numeric before) (d ∷ []) [] r s may (λ unlike. put_unchanged d r numeric before unlike);
+    goes_on = record { next = λ pc fact. refl; no_target = refl; same = λ fact. refl };
+    keeps = record {
+      ordinary = record { no_plan = refl; no_copies = refl; no_arguments = λ other n a called given. cc; no_iteration = refl; no_ticket = refl; no_enter = refl; no_leave = refl; stands = tt };
+      named = (rooma, (roomb, (room, tt)));
+      shaped = other;
+      given = tt;
+      asked = (is_number (before a) there, (is_number (before b) there2, tt));
+      kept = (plain_free (before d) plain, tt);
+      taken = tt;
+      written = tt;
+      left = λ is r s may leaves. cc;
+      loses = λ is r s may. safe r s may;
+      faults = λ r s may. faults_as (before r) r s may;
+      made = λ is. (put_there d before, tt);
+      handed = λ is r s may. stays_as (before r) (put d numeric before) (d ∷ []) [] r s may (λ unlike. put_unchanged d r numeric before unlike);
+    };
   }
 
   pub compare_step : (a b d : ℕ) (op : CmpOp) (t : CType) → a < code.registers → b < code.registers → d < code.registers → before a ≡ numeric → before b ≡ numeric → Plain (before d) → Goes (instr.Compare op t (register d) (register a) (register b)) (put d numeric before)
-  unfolding may_fault reads writes empties gives_whole gives_object takes IsShaped needs owning_writes makes hands_on derives
+  unfolding successors targets frame_done StandsIn may_fault reads writes empties gives_whole gives_object takes IsShaped needs owning_writes makes hands_on derives
   compare_step a b d op t rooma roomb room there there2 plain = record {
-    named = (rooma, (roomb, (room, tt)));
-    shaped = tt;
-    given = tt;
-    asked = (is_number (before a) there, (is_number (before b) there2, tt));
-    kept = (plain_free (before d) plain, tt);
-    taken = tt;
-    written = tt;
-    left = λ is r s may leaves. cc;
-    loses = λ is r s may. safe r s may;
-    faults = λ r s may. faults_as (before r) r s may;
-    made = λ is. (put_there d before, tt);
-    handed = λ is r s may. stays_as (before r) (put d numeric before) (d ∷ []) [] r s may (λ unlike. put_unchanged d r numeric before unlike);
+    goes_on = record { next = λ pc fact. refl; no_target = refl; same = λ fact. refl };
+    keeps = record {
+      ordinary = record { no_plan = refl; no_copies = refl; no_arguments = λ other n a called given. cc; no_iteration = refl; no_ticket = refl; no_enter = refl; no_leave = refl; stands = tt };
+      named = (rooma, (roomb, (room, tt)));
+      shaped = tt;
+      given = tt;
+      asked = (is_number (before a) there, (is_number (before b) there2, tt));
+      kept = (plain_free (before d) plain, tt);
+      taken = tt;
+      written = tt;
+      left = λ is r s may leaves. cc;
+      loses = λ is r s may. safe r s may;
+      faults = λ r s may. faults_as (before r) r s may;
+      made = λ is. (put_there d before, tt);
+      handed = λ is r s may. stays_as (before r) (put d numeric before) (d ∷ []) [] r s may (λ unlike. put_unchanged d r numeric before unlike);
+    };
   }

@@ -7,9 +7,11 @@ use Rattle.px_regcode.specs.declared.instructions.Instr.{Instr}
 use Rattle.px_regcode.specs.declared.instructions.Instr.TheVariants as instr
 use Rattle.px_regcode.specs.Images.{ImageParts}
 use Rattle.px_regcode.specs.Effects.{may_fault, reads, writes, empties, gives_whole, gives_object}
-use Rattle.px_regcode.specs.Operands.{takes}
+use Rattle.px_regcode.specs.Operands.{takes, targets}
+use Rattle.px_regcode.specs.Facts.{successors, frame_done}
 use Rattle.px_regcode.specs.Facts.{State, empty, whole, object, held, lent, fault, numbers_of, makes, hands_on, derives, result_of, state_of, as_result}
 use Rattle.px_regcode.specs.Shapes.{IsShaped, Meets, reference, reference_or_nothing, of_kind, IsTextOrNone, IsCallOf, IsOfKind, each, needs}
+use Rattle.px_regcode.specs.Formed.{StandsIn}
 use Rattle.px_regcode.specs.Formed.{owning_writes, times, owning_result}
 use Rattle.px_regcode.proofs.Tests.{Each}
 use Rattle.px_exprgen.specs.ExpressionCode.{register}
@@ -18,7 +20,7 @@ use Rattle.px_regcode.specs.declared.operands.RegKind.TheVariants as kind
 use Rattle.px_stmtgen.specs.Layouts.{registers_from}
 use Rattle.std.specs.Prelude.{slice_get, not}
 use Rattle.px_code_laws.proofs.NumberSteps.{put_unchanged, is_number}
-use Rattle.px_code_laws.proofs.Straight.{Kind, bare, numeric, owning, unowned, releasable, May, Kinds, put, put_same, Plain, plain_free, is_whole, Loses, Step, stays_as, faults_as}
+use Rattle.px_code_laws.proofs.Straight.{Kind, bare, numeric, owning, unowned, releasable, May, Kinds, put, put_same, Plain, plain_free, is_whole, Loses, Step, Keeping, stays_as, faults_as}
 
 pub put_gives : (d : ℕ) (k : Kind) (before : Kinds) (s : State) → May k s → May (put d k before d) s
 put_gives d k before s may = subst (λ l. May l s) (sym (put_same d k before)) may
@@ -151,88 +153,108 @@ module _ (image : ImageParts) (code : Code) (variables objects : ℕ) (handled :
   Goes i after = Step image code variables objects handled before i after
 
   pub box_step : (d a : ℕ) (t : CType) → d < code.registers → a < code.registers → d ≢ a → before a ≡ numeric → Plain (before d) → Goes (instr.Box t (register d) (register a)) (put d owning before)
-  unfolding may_fault reads writes empties gives_whole gives_object takes IsShaped needs owning_writes makes hands_on derives
+  unfolding successors targets frame_done StandsIn may_fault reads writes empties gives_whole gives_object takes IsShaped needs owning_writes makes hands_on derives
   box_step d a t room rooma other there plain = record {
-    named = (rooma, (room, tt));
-    shaped = tt;
-    given = tt;
-    asked = (is_number (before a) there, tt);
-    kept = (plain_free (before d) plain, tt);
-    taken = tt;
-    written = (once_behind d a other, tt);
-    left = λ is r s may leaves. cc;
-    loses = λ is r s may. safe r s may;
-    faults = λ r s may. faults_as (before r) r s may;
-    made = λ is. (put_gives d owning before (object false) tt, tt);
-    handed = λ is r s may. stays_as (before r) (put d owning before) (d ∷ []) [] r s may (λ unlike. put_unchanged d r owning before unlike);
+    goes_on = record { next = λ pc fact. refl; no_target = refl; same = λ fact. refl };
+    keeps = record {
+      ordinary = record { no_plan = refl; no_copies = refl; no_arguments = λ other n a called given. cc; no_iteration = refl; no_ticket = refl; no_enter = refl; no_leave = refl; stands = tt };
+      named = (rooma, (room, tt));
+      shaped = tt;
+      given = tt;
+      asked = (is_number (before a) there, tt);
+      kept = (plain_free (before d) plain, tt);
+      taken = tt;
+      written = (once_behind d a other, tt);
+      left = λ is r s may leaves. cc;
+      loses = λ is r s may. safe r s may;
+      faults = λ r s may. faults_as (before r) r s may;
+      made = λ is. (put_gives d owning before (object false) tt, tt);
+      handed = λ is r s may. stays_as (before r) (put d owning before) (d ∷ []) [] r s may (λ unlike. put_unchanged d r owning before unlike);
+    };
   }
 
   pub print_step : (first count : ℕ) → first + count ≤ code.registers → ((r : ℕ) → first ≤ r → r < first + count → before r ≡ owning) → Goes (instr.Print (registers_from first count)) before
-  unfolding may_fault reads writes empties gives_whole gives_object takes IsShaped needs owning_writes makes hands_on derives
+  unfolding successors targets frame_done StandsIn may_fault reads writes empties gives_whole gives_object takes IsShaped needs owning_writes makes hands_on derives
   print_step first count room all = record {
-    named = named_from (λ r. r < code.registers) first count (λ r from less. omega (arith, less, room));
-    shaped = tt;
-    given = tt;
-    asked = asked_from before first count all;
-    kept = tt;
-    taken = tt;
-    written = tt;
-    left = λ is r s may leaves. cc;
-    loses = λ is r s may. safe r s may;
-    faults = λ r s may. faults_as (before r) r s may;
-    made = λ is. tt;
-    handed = λ is r s may. stays_as (before r) before [] [] r s may (λ same. refl);
+    goes_on = record { next = λ pc fact. refl; no_target = refl; same = λ fact. refl };
+    keeps = record {
+      ordinary = record { no_plan = refl; no_copies = refl; no_arguments = λ other n a called given. cc; no_iteration = refl; no_ticket = refl; no_enter = refl; no_leave = refl; stands = tt };
+      named = named_from (λ r. r < code.registers) first count (λ r from less. omega (arith, less, room));
+      shaped = tt;
+      given = tt;
+      asked = asked_from before first count all;
+      kept = tt;
+      taken = tt;
+      written = tt;
+      left = λ is r s may leaves. cc;
+      loses = λ is r s may. safe r s may;
+      faults = λ r s may. faults_as (before r) r s may;
+      made = λ is. tt;
+      handed = λ is r s may. stays_as (before r) before [] [] r s may (λ same. refl);
+    };
   }
 
   pub text_step : (d n : ℕ) → d < code.registers → IsTextOrNone (slice_get image.constants n) → Plain (before d) → Goes (instr.Text (register d) n) (put d owning before)
-  unfolding may_fault reads writes empties gives_whole gives_object takes IsShaped needs owning_writes makes hands_on derives
+  unfolding successors targets frame_done StandsIn may_fault reads writes empties gives_whole gives_object takes IsShaped needs owning_writes makes hands_on derives
   text_step d n room text plain = record {
-    named = (room, tt);
-    shaped = text;
-    given = tt;
-    asked = tt;
-    kept = (plain_free (before d) plain, tt);
-    taken = tt;
-    written = (once d, tt);
-    left = λ is r s may leaves. cc;
-    loses = λ is r s may. safe r s may;
-    faults = λ r s may. faults_as (before r) r s may;
-    made = λ is. (put_gives d owning before (object false) tt, tt);
-    handed = λ is r s may. stays_as (before r) (put d owning before) (d ∷ []) [] r s may (λ unlike. put_unchanged d r owning before unlike);
+    goes_on = record { next = λ pc fact. refl; no_target = refl; same = λ fact. refl };
+    keeps = record {
+      ordinary = record { no_plan = refl; no_copies = refl; no_arguments = λ other n a called given. cc; no_iteration = refl; no_ticket = refl; no_enter = refl; no_leave = refl; stands = tt };
+      named = (room, tt);
+      shaped = text;
+      given = tt;
+      asked = tt;
+      kept = (plain_free (before d) plain, tt);
+      taken = tt;
+      written = (once d, tt);
+      left = λ is r s may leaves. cc;
+      loses = λ is r s may. safe r s may;
+      faults = λ r s may. faults_as (before r) r s may;
+      made = λ is. (put_gives d owning before (object false) tt, tt);
+      handed = λ is r s may. stays_as (before r) (put d owning before) (d ∷ []) [] r s may (λ unlike. put_unchanged d r owning before unlike);
+    };
   }
 
   pub call_step : (f : ℕ) → IsCallOf image f None 0 → Goes (instr.Call f None []) before
-  unfolding may_fault reads writes empties gives_whole gives_object takes IsShaped needs owning_writes makes hands_on derives
+  unfolding successors targets frame_done StandsIn may_fault reads writes empties gives_whole gives_object takes IsShaped needs owning_writes makes hands_on derives
   call_step f is_call = record {
-    named = tt;
-    shaped = is_call;
-    given = tt;
-    asked = tt;
-    kept = tt;
-    taken = tt;
-    written = tt;
-    left = λ is r s may leaves. cc;
-    loses = λ is r s may. safe r s may;
-    faults = λ r s may. faults_as (before r) r s may;
-    made = λ is. tt;
-    handed = λ is r s may. stays_as (before r) before [] [] r s may (λ same. refl);
+    goes_on = record { next = λ pc fact. refl; no_target = refl; same = λ fact. refl };
+    keeps = record {
+      ordinary = record { no_plan = refl; no_copies = refl; no_arguments = λ other n a called given. cc; no_iteration = refl; no_ticket = refl; no_enter = refl; no_leave = refl; stands = tt };
+      named = tt;
+      shaped = is_call;
+      given = tt;
+      asked = tt;
+      kept = tt;
+      taken = tt;
+      written = tt;
+      left = λ is r s may leaves. cc;
+      loses = λ is r s may. safe r s may;
+      faults = λ r s may. faults_as (before r) r s may;
+      made = λ is. tt;
+      handed = λ is r s may. stays_as (before r) before [] [] r s may (λ same. refl);
+    };
   }
 
   pub result_step : (f d : ℕ) (k : RegKind) → IsCallOf image f (Some (register d)) 0 → result_of (slice_get image.codes f) ≡ Some k → IsResult k → d < code.registers → Plain (before d) → Goes (instr.Call f (Some (register d)) []) (put d (given_kind k) before)
-  unfolding may_fault reads writes empties gives_whole gives_object takes IsShaped needs owning_writes makes hands_on derives
+  unfolding successors targets frame_done StandsIn may_fault reads writes empties gives_whole gives_object takes IsShaped needs owning_writes makes hands_on derives
   result_step f d k is_call same is_result room plain = record {
-    named = (room, tt);
-    shaped = is_call;
-    given = tt;
-    asked = tt;
-    kept = (plain_free (before d) plain, tt);
-    taken = tt;
-    written = subst (λ o. Each (λ r. times r (d ∷ []) ≡ 1) (owning_result o (d ∷ []))) (sym same) (owns_once d k is_result);
-    left = λ is r s may leaves. cc;
-    loses = λ is r s may. safe r s may;
-    faults = λ r s may. faults_as (before r) r s may;
-    made = λ is. subst (λ o. Each (λ p. May (put d (given_kind k) before p.0) p.1) (as_result d o ++ [] ++ [])) (sym same) (put_gives d (given_kind k) before (state_of k) (gives_result k is_result), tt);
-    handed = λ is r s may. stays_as (before r) (put d (given_kind k) before) (d ∷ []) [] r s may (λ unlike. put_unchanged d r (given_kind k) before unlike);
+    goes_on = record { next = λ pc fact. refl; no_target = refl; same = λ fact. refl };
+    keeps = record {
+      ordinary = record { no_plan = refl; no_copies = refl; no_arguments = λ other n a called given. cc; no_iteration = refl; no_ticket = refl; no_enter = refl; no_leave = refl; stands = tt };
+      named = (room, tt);
+      shaped = is_call;
+      given = tt;
+      asked = tt;
+      kept = (plain_free (before d) plain, tt);
+      taken = tt;
+      written = subst (λ o. Each (λ r. times r (d ∷ []) ≡ 1) (owning_result o (d ∷ []))) (sym same) (owns_once d k is_result);
+      left = λ is r s may leaves. cc;
+      loses = λ is r s may. safe r s may;
+      faults = λ r s may. faults_as (before r) r s may;
+      made = λ is. subst (λ o. Each (λ p. May (put d (given_kind k) before p.0) p.1) (as_result d o ++ [] ++ [])) (sym same) (put_gives d (given_kind k) before (state_of k) (gives_result k is_result), tt);
+      handed = λ is r s may. stays_as (before r) (put d (given_kind k) before) (d ∷ []) [] r s may (λ unlike. put_unchanged d r (given_kind k) before unlike);
+    };
   }
 
 -- what raises no fault
@@ -241,76 +263,93 @@ module _ (image : ImageParts) (code : Code) (variables objects : ℕ) (handled :
   Leaves i after = Step image code variables objects handled before i after
 
   pub drop_step : (a : ℕ) → a < code.registers → Released (before a) → Leaves (instr.Drop (register a)) (put a bare before)
-  unfolding may_fault reads writes empties gives_whole gives_object takes IsShaped needs owning_writes makes hands_on derives
+  unfolding successors targets frame_done StandsIn may_fault reads writes empties gives_whole gives_object takes IsShaped needs owning_writes makes hands_on derives
   drop_step a room released = record {
-    named = (room, (room, tt));
-    shaped = tt;
-    given = tt;
-    asked = (is_released (before a) released, tt);
-    kept = tt;
-    taken = ((λ s may owned. once a), tt);
-    written = tt;
-    left = λ is r s may leaves. cc;
-    loses = λ is r s may. cc;
-    faults = λ r s may. faults_as (before r) r s may;
-    made = λ is. (put_gives a bare before empty tt, tt);
-    handed = λ is r s may. stays_as (before r) (put a bare before) (a ∷ []) (a ∷ []) r s may (λ unlike. put_unchanged a r bare before unlike);
+    goes_on = record { next = λ pc fact. refl; no_target = refl; same = λ fact. refl };
+    keeps = record {
+      ordinary = record { no_plan = refl; no_copies = refl; no_arguments = λ other n a called given. cc; no_iteration = refl; no_ticket = refl; no_enter = refl; no_leave = refl; stands = tt };
+      named = (room, (room, tt));
+      shaped = tt;
+      given = tt;
+      asked = (is_released (before a) released, tt);
+      kept = tt;
+      taken = ((λ s may owned. once a), tt);
+      written = tt;
+      left = λ is r s may leaves. cc;
+      loses = λ is r s may. cc;
+      faults = λ r s may. faults_as (before r) r s may;
+      made = λ is. (put_gives a bare before empty tt, tt);
+      handed = λ is r s may. stays_as (before r) (put a bare before) (a ∷ []) (a ∷ []) r s may (λ unlike. put_unchanged a r bare before unlike);
+    };
   }
 
   pub return_step : (a : ℕ) (k : RegKind) (after : Kinds) → a < code.registers → code.result ≡ k → IsResult k → before a ≡ given_kind k → ((r : ℕ) → r ≢ a → Plain (before r)) → Leaves (instr.Return (register a)) after
-  unfolding may_fault reads writes empties gives_whole gives_object takes IsShaped needs owning_writes makes hands_on derives
+  unfolding successors targets frame_done StandsIn may_fault reads writes empties gives_whole gives_object takes IsShaped needs owning_writes makes hands_on derives
   return_step a k after room same is_result there others = record {
-    named = (room, tt);
-    shaped = tt;
-    given = subst (λ l. l ≢ kind.Empty) (sym same) (not_empty k is_result);
-    asked = (subst (λ l. (s : State) → May (before a) s → Meets s (of_kind l)) (sym same) (returned k is_result (before a) there), tt);
-    kept = tt;
-    taken = ((λ s may owned. once a), tt);
-    written = tt;
-    left = λ is r s may leaves. plain_free (before r) (others r (left_but a r s leaves)) s may;
-    loses = λ is r s may. cc;
-    faults = λ r s may. faults_as (before r) r s may;
-    made = λ is. cc;
-    handed = λ is r s may. cc;
+    goes_on = record { next = λ pc fact. refl; no_target = refl; same = λ fact. refl };
+    keeps = record {
+      ordinary = record { no_plan = refl; no_copies = refl; no_arguments = λ other n a called given. cc; no_iteration = refl; no_ticket = refl; no_enter = refl; no_leave = refl; stands = tt };
+      named = (room, tt);
+      shaped = tt;
+      given = subst (λ l. l ≢ kind.Empty) (sym same) (not_empty k is_result);
+      asked = (subst (λ l. (s : State) → May (before a) s → Meets s (of_kind l)) (sym same) (returned k is_result (before a) there), tt);
+      kept = tt;
+      taken = ((λ s may owned. once a), tt);
+      written = tt;
+      left = λ is r s may leaves. plain_free (before r) (others r (left_but a r s leaves)) s may;
+      loses = λ is r s may. cc;
+      faults = λ r s may. faults_as (before r) r s may;
+      made = λ is. cc;
+      handed = λ is r s may. cc;
+    };
   }
 
   pub finish_step : (after : Kinds) → code.result ≡ kind.Empty → ((r : ℕ) → Plain (before r)) → Leaves instr.Finish after
-  unfolding may_fault reads writes empties gives_whole gives_object takes IsShaped needs owning_writes makes hands_on derives
+  unfolding successors targets frame_done StandsIn may_fault reads writes empties gives_whole gives_object takes IsShaped needs owning_writes makes hands_on derives
   finish_step after same others = record {
-    named = tt;
-    shaped = same;
-    given = tt;
-    asked = tt;
-    kept = tt;
-    taken = tt;
-    written = tt;
-    left = λ is r s may leaves. plain_free (before r) (others r) s may;
-    loses = λ is r s may. cc;
-    faults = λ r s may. faults_as (before r) r s may;
-    made = λ is. cc;
-    handed = λ is r s may. cc;
+    goes_on = record { next = λ pc fact. refl; no_target = refl; same = λ fact. refl };
+    keeps = record {
+      ordinary = record { no_plan = refl; no_copies = refl; no_arguments = λ other n a called given. cc; no_iteration = refl; no_ticket = refl; no_enter = refl; no_leave = refl; stands = tt };
+      named = tt;
+      shaped = same;
+      given = tt;
+      asked = tt;
+      kept = tt;
+      taken = tt;
+      written = tt;
+      left = λ is r s may leaves. plain_free (before r) (others r) s may;
+      loses = λ is r s may. cc;
+      faults = λ r s may. faults_as (before r) r s may;
+      made = λ is. cc;
+      handed = λ is r s may. cc;
+    };
   }
 
   pub throw_step : (after : Kinds) → ((r : ℕ) → Plain (before r)) → Leaves instr.Throw after
-  unfolding may_fault reads writes empties gives_whole gives_object takes IsShaped needs owning_writes makes hands_on derives
+  unfolding successors targets frame_done StandsIn may_fault reads writes empties gives_whole gives_object takes IsShaped needs owning_writes makes hands_on derives
   throw_step after others = record {
-    named = tt;
-    shaped = tt;
-    given = tt;
-    asked = tt;
-    kept = tt;
-    taken = tt;
-    written = tt;
-    left = λ is r s may leaves. plain_free (before r) (others r) s may;
-    loses = λ is r s may. cc;
-    faults = λ r s may. faults_as (before r) r s may;
-    made = λ is. cc;
-    handed = λ is r s may. cc;
+    goes_on = record { next = λ pc fact. refl; no_target = refl; same = λ fact. refl };
+    keeps = record {
+      ordinary = record { no_plan = refl; no_copies = refl; no_arguments = λ other n a called given. cc; no_iteration = refl; no_ticket = refl; no_enter = refl; no_leave = refl; stands = tt };
+      named = tt;
+      shaped = tt;
+      given = tt;
+      asked = tt;
+      kept = tt;
+      taken = tt;
+      written = tt;
+      left = λ is r s may leaves. plain_free (before r) (others r) s may;
+      loses = λ is r s may. cc;
+      faults = λ r s may. faults_as (before r) r s may;
+      made = λ is. cc;
+      handed = λ is r s may. cc;
+    };
   }
 
-  pub jump_step : (k : ℕ) → Leaves (instr.Jump k) before
-  unfolding may_fault reads writes empties gives_whole gives_object takes IsShaped needs owning_writes makes hands_on derives
+  pub jump_step : (k : ℕ) → Keeping image code variables objects handled before (instr.Jump k) before
+  unfolding successors targets frame_done StandsIn may_fault reads writes empties gives_whole gives_object takes IsShaped needs owning_writes makes hands_on derives
   jump_step k = record {
+    ordinary = record { no_plan = refl; no_copies = refl; no_arguments = λ other n a called given. cc; no_iteration = refl; no_ticket = refl; no_enter = refl; no_leave = refl; stands = tt };
     named = tt;
     shaped = tt;
     given = tt;
@@ -325,9 +364,10 @@ module _ (image : ImageParts) (code : Code) (variables objects : ℕ) (handled :
     handed = λ is r s may. stays_as (before r) before [] [] r s may (λ same. refl);
   }
 
-  pub handle_step : (k : ℕ) → Leaves (instr.Handle k) before
-  unfolding may_fault reads writes empties gives_whole gives_object takes IsShaped needs owning_writes makes hands_on derives
+  pub handle_step : (k : ℕ) → Keeping image code variables objects handled before (instr.Handle k) before
+  unfolding successors targets frame_done StandsIn may_fault reads writes empties gives_whole gives_object takes IsShaped needs owning_writes makes hands_on derives
   handle_step k = record {
+    ordinary = record { no_plan = refl; no_copies = refl; no_arguments = λ other n a called given. cc; no_iteration = refl; no_ticket = refl; no_enter = refl; no_leave = refl; stands = tt };
     named = tt;
     shaped = tt;
     given = tt;

@@ -1,14 +1,18 @@
 -- Straight code by what its registers may hold: each instruction hands kinds of states on to the next one.
 use Rattle.std.proofs.Common.{◌≡◌, ◌≢◌, ℕ, suc, ◌+◌, ◌<◌, nat_eq, Bool, true, false, if◌then◌else◌, List, [], ◌∷◌, ◌++◌, refl, sym, ap, subst}
-use Rattle.std.specs.Prelude.{nat_le, ◌&&◌}
+use Rattle.std.specs.Prelude.{nat_le, ◌&&◌, slice_get, Some, None}
 use Rattle.std.proofs.lemmas.Bool.{eqb-true, eq-eqb}
 use Rattle.px_regcode.specs.declared.codes.Code.{Code}
 use Rattle.px_regcode.specs.declared.instructions.Instr.{Instr}
 use Rattle.px_regcode.specs.Images.{ImageParts}
 use Rattle.px_regcode.specs.Effects.{may_fault, reads, writes, empties}
-use Rattle.px_regcode.specs.Operands.{takes}
+use Rattle.px_regcode.specs.declared.operands.Register.{Register}
+use Rattle.px_regcode.specs.Operands.{takes, targets}
+use Rattle.px_regcode.specs.Paths.{is_ticket}
+use Rattle.px_regcode.specs.Facts.{FrameFact, successors, if_faulting, frame_done, plan_writes}
 use Rattle.px_regcode.specs.Facts.{State, empty, whole, object, held, lent, fault, outside, done, faulted, numbers_of, makes, hands_on, is_one_of, once_emptied, each_once_emptied, all_at}
-use Rattle.px_regcode.specs.Shapes.{IsShaped, Meets, needs}
+use Rattle.px_regcode.specs.Shapes.{IsShaped, Meets, needs, plan_of, arguments_of}
+use Rattle.px_regcode.specs.Formed.{callee, ends_iteration, is_enter, is_leave, StandsIn}
 use Rattle.px_regcode.specs.Formed.{IsGiven, is_owned, owning_writes, times, names, ends_frame, may_be_left}
 use Rattle.px_regcode.proofs.Tests.{Each}
 
@@ -90,6 +94,24 @@ is_whole owning is s may = cc
 is_whole unowned is s may = cc
 is_whole releasable is s may = cc
 
+-- an instruction that stands outside of parallel loops, takes no lock, and hands no arguments over
+pub record Ordinary (image : ImageParts) (i : Instr) : Type 0 where
+  pub no_plan : plan_of image i ≡ None
+  pub no_copies : plan_writes image outside i ≡ []
+  pub no_arguments : (other : Code) (n : ℕ) (a : Register) → callee image i ≡ Some other → slice_get (arguments_of i) n ≡ Some a → ⊥
+  pub no_iteration : ends_iteration i ≡ false
+  pub no_ticket : is_ticket i ≡ false
+  pub no_enter : is_enter i ≡ false
+  pub no_leave : is_leave i ≡ false
+  pub stands : StandsIn i outside
+
+-- one behind which the next one follows, with the same handler
+pub record GoesOn (image : ImageParts) (i : Instr) : Type 0 where
+  pub next : (pc : ℕ) (fact : FrameFact)
+      → successors image pc i fact ≡ (if ends_frame i then [] else (done, pc + 1) ∷ if_faulting (may_fault i) fact.handler)
+  pub no_target : targets i ≡ []
+  pub same : (fact : FrameFact) → frame_done i fact ≡ fact
+
 module _ (image : ImageParts) (code : Code) (variables objects : ℕ) where
   -- what may stand in a register where a fault is caught
   abbrev pub clean : Kinds
@@ -101,7 +123,8 @@ module _ (image : ImageParts) (code : Code) (variables objects : ℕ) where
   Loses false r s = is_owned s ≡ false
 
   -- an instruction keeps the rules where registers hold such states, and hands others on
-  pub record Step (handled : Bool) (before : Kinds) (i : Instr) (after : Kinds) : Type 0 where
+  pub record Keeping (handled : Bool) (before : Kinds) (i : Instr) (after : Kinds) : Type 0 where
+    pub ordinary : Ordinary image i
     pub named : Each (λ r. r < code.registers) (numbers_of (reads i ++ writes i ++ empties i))
     pub shaped : IsShaped image code i
     pub given : IsGiven code.result i
@@ -114,6 +137,11 @@ module _ (image : ImageParts) (code : Code) (variables objects : ℕ) where
     pub faults : (r : ℕ) (s : State) → May (before r) s → Each (λ p. (p.0 ≡ r) × (p.1 ≡ s)) (hands_on image outside i faulted r s)
     pub made : ends_frame i ≡ false → Each (λ p. May (after p.0) p.1) (makes image outside i done)
     pub handed : ends_frame i ≡ false → (r : ℕ) (s : State) → May (before r) s → Each (λ p. May (after p.0) p.1) (hands_on image outside i done r s)
+
+  -- one that goes on behind itself, if it doesn't end the frame
+  pub record Step (handled : Bool) (before : Kinds) (i : Instr) (after : Kinds) : Type 0 where
+    pub goes_on : GoesOn image i
+    pub keeps : Keeping handled before i after
 
   -- instructions one behind another
   pub data Path (handled : Bool) : Kinds → List Instr → Kinds → Type 0 where
