@@ -1,5 +1,5 @@
 -- A text has one answer of a command at most.
-use Rattle.std.proofs.Common.{◌≡◌, ◌⊎◌, inl, inr, ℕ, List, [], ◌∷◌, Some, None, Ok, Err, refl, sym, ap, ◌∙◌, subst}
+use Rattle.std.proofs.Common.{◌≡◌, ◌⊎◌, inl, inr, ℕ, List, [], ◌∷◌, Option, Some, None, Ok, Err, refl, sym, ap, ◌∙◌, subst}
 use Rattle.px_base.specs.declared.refusals.Span.{Span}
 use Rattle.px_base.specs.declared.refusals.Refusal.{Refusal}
 use Rattle.px_base.specs.Findings.{IsFirst}
@@ -20,13 +20,18 @@ use Rattle.px_cli.specs.FirstMeaning.{Values, no_values, DoInTurn, IsMain, Print
 use Rattle.px_cli.specs.FirstRefusals.{place_of, StopsAt, IsMainItem, IsCallItem, BeginsWithMain, IsUnbuiltAt, IsUnbuilt, unbuilt_refusal}
 use Rattle.px_names.specs.Rules.{BreaksNames}
 use Rattle.px_cli.specs.declared.words.Command.{Command}
-use Rattle.px_cli.specs.declared.words.Command.TheVariants.{Check, Run}
+use Rattle.px_cli.specs.declared.words.Command.TheVariants as commands
 use Rattle.px_names.specs.declared.named.Named.{Named}
 use Rattle.px_names.specs.NamedModule.{IsNamed}
 use Rattle.px_operators.specs.Outcomes.{Outcome}
+use Rattle.px_types.specs.TypedModule.{ModuleTypes}
 use Rattle.px_types.specs.Types.{types_of}
-use Rattle.px_cli.specs.Phases.{AreTokensOf, IsModuleText, IsMistyped, IsNotRun, IsNotTaken, IsAccepted, IsTextRefused, Writes, WritesPrinted}
+use Rattle.px_regcode.specs.Listing.{listing_of}
+use Rattle.px_compile.specs.FitModules.{unbuilt_of}
+use Rattle.px_compile.specs.ModuleImage.{module_image}
+use Rattle.px_cli.specs.Phases.{AreTokensOf, IsModuleText, IsMistyped, IsNotListed, IsNotRun, IsNotTaken, IsAccepted, IsTextRefused, Writes, WritesListing, WritesPrinted}
 use Rattle.px_cli.specs.Laws.{AnswersAreUnique}
+use Rattle.px_cli.proofs.ListingLemmas.{same_types}
 use Rattle.px_cli.proofs.SameValues.{turns_same, stops_or_does, stops_same}
 
 -- Where a module is refused, by its items
@@ -128,17 +133,51 @@ not_run_alike alike (inl wrong) = inl (mistyped_alike alike wrong)
 not_run_alike {refusal = refusal} alike (inr unbuilt) =
     inr (λ found wrong. unbuilt.0 found (mistyped_alike (alike_back alike) wrong), subst (λ m. IsUnbuilt m refusal) alike.modules unbuilt.1)
 
+listing_alike : {a b : Named} {output : List ℕ} → IsAlike a b → WritesListing a output → WritesListing b output
+listing_alike alike writes = record { found = writes.found; typed = sym alike.types ∙ writes.typed; built = writes.built; listing = writes.listing }
+
+not_listed_alike : {a b : Named} {refusal : Refusal} → IsAlike a b → IsNotListed a refusal → IsNotListed b refusal
+not_listed_alike alike (inl untyped) = inl (sym alike.types ∙ untyped)
+not_listed_alike alike (inr without) = inr (record { found = without.found; typed = sym alike.types ∙ without.typed; unbuilt = without.unbuilt })
+
 not_taken_alike : {a b : Named} (refusal : Refusal) (command : Command) → IsAlike a b → IsNotTaken command a refusal → IsNotTaken command b refusal
-not_taken_alike refusal Check alike is = sym alike.types ∙ is
-not_taken_alike refusal Run alike is = not_run_alike alike is
+not_taken_alike refusal commands.Check alike is = sym alike.types ∙ is
+not_taken_alike refusal commands.List alike is = not_listed_alike alike is
+not_taken_alike refusal commands.Run alike is = not_run_alike alike is
 
 writes_alike : {a b : Named} (output : List ℕ) (command : Command) → IsAlike a b → Writes command a output → Writes command b output
-writes_alike output Check alike writes = (writes.0, sym alike.types ∙ writes.1, writes.2)
-writes_alike output Run alike writes = printed_alike alike writes
+writes_alike output commands.Check alike writes = (writes.0, sym alike.types ∙ writes.1, writes.2)
+writes_alike output commands.List alike writes = listing_alike alike writes
+writes_alike output commands.Run alike writes = printed_alike alike writes
+
+none_or_refusal : {refusal : Refusal} (found : Option Refusal) → found ≡ None → found ≡ Some refusal → ⊥
+none_or_refusal found is other = absurd cc
+
+one_refusal : {refusal other : Refusal} (found : Option Refusal) → found ≡ Some refusal → found ≡ Some other → refusal ≡ other
+one_refusal found is again = cc
+
+listed_once : {named : Named} {output other : List ℕ} → WritesListing named output → WritesListing named other → output ≡ other
+listed_once {named} a b =
+    a.listing ∙ ap (λ (t : ModuleTypes). listing_of (module_image t).codes (module_image t).constants) (same_types (types_of named) a.typed b.typed) ∙ sym b.listing
+
+not_listed_once : {named : Named} {refusal other : Refusal} → IsNotListed named refusal → IsNotListed named other → refusal ≡ other
+not_listed_once {named} (inl p) (inl q) = untyped_once (types_of named) p q
+not_listed_once {named} (inl p) (inr q) = absurd (typed_or_not (types_of named) q.typed p)
+not_listed_once {named} (inr p) (inl q) = absurd (typed_or_not (types_of named) p.typed q)
+not_listed_once {named} {other = other} (inr p) (inr q) =
+    let same : q.found ≡ p.found = same_types (types_of named) q.typed p.typed in
+    one_refusal (unbuilt_of p.found) p.unbuilt (subst (λ t. unbuilt_of t ≡ Some other) same q.unbuilt)
+
+listed_or_not : {named : Named} {output : List ℕ} {refusal : Refusal} → WritesListing named output → IsNotListed named refusal → ⊥
+listed_or_not {named} a (inl untyped) = typed_or_not (types_of named) a.typed untyped
+listed_or_not {named} {refusal = refusal} a (inr without) =
+    let same : without.found ≡ a.found = same_types (types_of named) without.typed a.typed in
+    none_or_refusal (unbuilt_of a.found) a.built (subst (λ t. unbuilt_of t ≡ Some refusal) same without.unbuilt)
 
 written_once : {output other : List ℕ} (named : Named) (command : Command) → Writes command named output → Writes command named other → output ≡ other
-written_once named Check a b = a.2 ∙ sym b.2
-written_once named Run a b = printed_once a.1 b.1
+written_once named commands.Check a b = a.2 ∙ sym b.2
+written_once named commands.List a b = listed_once a b
+written_once named commands.Run a b = printed_once a.1 b.1
 
 not_run_once : {named : Named} {refusal other : Refusal} → IsNotRun named refusal → IsNotRun named other → refusal ≡ other
 not_run_once {named} (inl p) (inl q) = untyped_once (types_of named) p.answer q.answer
@@ -147,16 +186,18 @@ not_run_once {other = other} (inr p) (inl q) = absurd (p.0 other q)
 not_run_once (inr p) (inr q) = unbuilt_once p.1 q.1
 
 not_taken_once : {refusal other : Refusal} (named : Named) (command : Command) → IsNotTaken command named refusal → IsNotTaken command named other → refusal ≡ other
-not_taken_once named Check a b = untyped_once (types_of named) a b
-not_taken_once named Run a b = not_run_once a b
+not_taken_once named commands.Check a b = untyped_once (types_of named) a b
+not_taken_once named commands.List a b = not_listed_once a b
+not_taken_once named commands.Run a b = not_run_once a b
 
 printed_or_not : {named : Named} {output : List ℕ} {refusal : Refusal} → WritesPrinted named output → IsNotRun named refusal → ⊥
 printed_or_not {refusal = refusal} a (inl wrong) = a.0 refusal wrong
 printed_or_not a (inr unbuilt) = prints_or_refused a.1 unbuilt.1
 
 written_or_not : (named : Named) (output : List ℕ) (refusal : Refusal) (command : Command) → Writes command named output → IsNotTaken command named refusal → ⊥
-written_or_not named output refusal Check a b = typed_or_not (types_of named) a.1 b
-written_or_not named output refusal Run a b = printed_or_not a b
+written_or_not named output refusal commands.Check a b = typed_or_not (types_of named) a.1 b
+written_or_not named output refusal commands.List a b = listed_or_not a b
+written_or_not named output refusal commands.Run a b = printed_or_not a b
 
 first_once : (P : Refusal → Type 0) (refusal other : Refusal) → IsFirst P (Some refusal) → IsFirst P (Some other) → refusal ≡ other
 first_once P refusal other p q = comes_first-antisymmetric refusal other (p.1 other q.0) (q.1 refusal p.0)

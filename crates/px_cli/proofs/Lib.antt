@@ -4,6 +4,7 @@ mod CommandLemmas
 mod CompleteLaws
 mod DoesLemmas
 mod ExpressionLemmas
+mod ListingLemmas
 mod NameLemmas
 mod PhaseLemmas
 mod RefusalLemmas

@@ -1,12 +1,13 @@
 -- Two calls that serve for these words the same have the same reports.
-use Rattle.std.proofs.Common.{ℕ, List, [], ◌∷◌, Option, inl, inr}
+use Rattle.std.proofs.Common.{ℕ, List, [], ◌∷◌, Option, inl, inr, sym, subst}
+use Rattle.std.specs.Prelude.{Contains}
 use Rattle.px_base.specs.declared.statuses.Status.{Status}
 use Rattle.px_base.specs.declared.statuses.Status.TheVariants as s
 use Rattle.px_cli.specs.declared.words.Command.{Command}
-use Rattle.px_cli.specs.declared.words.Command.TheVariants.{Check, Run}
+use Rattle.px_cli.specs.declared.words.Command.TheVariants as commands
 use Rattle.px_cli.specs.Words.{Asks, all_commands, checking_commands}
 use Rattle.px_cli.specs.Answer.{Facts, IsAnswer, IsAsked, IsBroken, IsCutShort, IsGiven, IsReport, HasModule, Taking, facts_of}
-use Rattle.px_cli.proofs.CommandLemmas.{serves_itself, serves_both, not_both}
+use Rattle.px_cli.proofs.CommandLemmas.{serves_itself, serves_all, serves_check, serves_list, serves_no_run, only_itself, one_command}
 
 abbrev Told : Type 0
 Told = Option (List ℕ → Option (List ℕ))
@@ -59,26 +60,39 @@ module _ (xs ys : List Command) (words : List (List ℕ)) (map : Told) (before a
   report_over s.NoFile out err h = given_over s.NoFile out err h
   report_over s.TooLarge out err h = given_over s.TooLarge out err h
 
--- where the words ask for a check, the call that serves it alone reports what the one reports that serves all
-pub checked_report : (words : List (List ℕ)) (map : Told) (before after : ℕ) (name : List ℕ) (status : Status) (out err : Taking) → Asks Check words name → IsReport (facts_of checking_commands words map before after) status out err
-    → IsReport (facts_of all_commands words map before after) status out err
-checked_report words map before after name status out err asked h = report_over checking_commands all_commands words map before after on back status out err h
+-- Where the words ask for a command that a call serves, the call reports what one reports that serves this command alone.
+pub asked_report : (command : Command) (serves : List Command) (words : List (List ℕ)) (map : Told) (before after : ℕ) (name : List ℕ) (status : Status) (out err : Taking) → Contains serves command → Asks command words name
+    → IsReport (facts_of (command ∷ []) words map before after) status out err → IsReport (facts_of serves words map before after) status out err
+asked_report command serves words map before after name status out err served asked h = report_over (command ∷ []) serves words map before after on back status out err h
   where
-    on : (command : Command) (file : List ℕ) → IsAsked (facts_of checking_commands words map before after) command file → IsAsked (facts_of all_commands words map before after) command file
-    on command file h = record { served = serves_both command; asked = h.asked }
+    on : (other : Command) (file : List ℕ) → IsAsked (facts_of (command ∷ []) words map before after) other file → IsAsked (facts_of serves words map before after) other file
+    on other file h = record { served = subst (Contains serves) (sym (only_itself command other h.served)) served; asked = h.asked }
 
-    back : (command : Command) (file : List ℕ) → IsAsked (facts_of all_commands words map before after) command file → IsAsked (facts_of checking_commands words map before after) command file
-    back Check file h = record { served = serves_itself Check; asked = h.asked }
-    back Run file h = absurd (not_both asked h.asked)
+    back : (other : Command) (file : List ℕ) → IsAsked (facts_of serves words map before after) other file → IsAsked (facts_of (command ∷ []) words map before after) other file
+    back other file h = record { served = subst (Contains (command ∷ [])) (one_command asked h.asked).0 (serves_itself command); asked = h.asked }
 
--- and where they don't, so does the call that serves a run alone
-pub other_report : (words : List (List ℕ)) (map : Told) (before after : ℕ) (status : Status) (out err : Taking) → ((file : List ℕ) → Asks Check words file → ⊥) → IsReport (facts_of (Run ∷ []) words map before after) status out err
-    → IsReport (facts_of all_commands words map before after) status out err
-other_report words map before after status out err none h = report_over (Run ∷ []) all_commands words map before after on back status out err h
+-- where they don't ask for a listing, the call without a run reports what one reports that serves a check alone
+pub unlisted_report : (words : List (List ℕ)) (map : Told) (before after : ℕ) (status : Status) (out err : Taking) → ((file : List ℕ) → Asks commands.List words file → ⊥) → IsReport (facts_of (commands.Check ∷ []) words map before after) status out err
+    → IsReport (facts_of checking_commands words map before after) status out err
+unlisted_report words map before after status out err none h = report_over (commands.Check ∷ []) checking_commands words map before after on back status out err h
   where
-    on : (command : Command) (file : List ℕ) → IsAsked (facts_of (Run ∷ []) words map before after) command file → IsAsked (facts_of all_commands words map before after) command file
-    on command file h = record { served = serves_both command; asked = h.asked }
+    on : (other : Command) (file : List ℕ) → IsAsked (facts_of (commands.Check ∷ []) words map before after) other file → IsAsked (facts_of checking_commands words map before after) other file
+    on other file h = record { served = subst (Contains checking_commands) (sym (only_itself commands.Check other h.served)) serves_check; asked = h.asked }
 
-    back : (command : Command) (file : List ℕ) → IsAsked (facts_of all_commands words map before after) command file → IsAsked (facts_of (Run ∷ []) words map before after) command file
-    back Check file h = absurd (none file h.asked)
-    back Run file h = record { served = serves_itself Run; asked = h.asked }
+    back : (other : Command) (file : List ℕ) → IsAsked (facts_of checking_commands words map before after) other file → IsAsked (facts_of (commands.Check ∷ []) words map before after) other file
+    back commands.Check file h = record { served = serves_itself commands.Check; asked = h.asked }
+    back commands.List file h = absurd (none file h.asked)
+    back commands.Run file h = absurd (serves_no_run h.served)
+
+-- and where they don't ask for a run, the call that serves all commands reports what the one without a run does
+pub checked_report : (words : List (List ℕ)) (map : Told) (before after : ℕ) (status : Status) (out err : Taking) → ((file : List ℕ) → Asks commands.Run words file → ⊥) → IsReport (facts_of checking_commands words map before after) status out err
+    → IsReport (facts_of all_commands words map before after) status out err
+checked_report words map before after status out err none h = report_over checking_commands all_commands words map before after on back status out err h
+  where
+    on : (other : Command) (file : List ℕ) → IsAsked (facts_of checking_commands words map before after) other file → IsAsked (facts_of all_commands words map before after) other file
+    on other file h = record { served = serves_all other; asked = h.asked }
+
+    back : (other : Command) (file : List ℕ) → IsAsked (facts_of all_commands words map before after) other file → IsAsked (facts_of checking_commands words map before after) other file
+    back commands.Check file h = record { served = serves_check; asked = h.asked }
+    back commands.List file h = record { served = serves_list; asked = h.asked }
+    back commands.Run file h = absurd (none file h.asked)

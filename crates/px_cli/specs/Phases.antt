@@ -14,8 +14,11 @@ use Rattle.px_names.specs.NamedModule.{IsNamed}
 use Rattle.px_names.specs.Rules.{BreaksNames}
 use Rattle.px_types.specs.TypedModule.{ModuleTypes}
 use Rattle.px_types.specs.Types.{types_of}
+use Rattle.px_regcode.specs.Listing.{listing_of}
+use Rattle.px_compile.specs.FitModules.{unbuilt_of}
+use Rattle.px_compile.specs.ModuleImage.{module_image}
 use Rattle.px_cli.specs.declared.words.Command.{Command}
-use Rattle.px_cli.specs.declared.words.Command.TheVariants.{Check, Run}
+use Rattle.px_cli.specs.declared.words.Command.TheVariants as commands
 use Rattle.px_cli.specs.FirstMeaning.{Prints}
 use Rattle.px_cli.specs.FirstRefusals.{IsUnbuilt}
 use Rattle.px_cli.specs.LineEnds.{with_line_end}
@@ -50,30 +53,48 @@ pub record IsMistyped (named : Named) (refusal : Refusal) : Type 0 where
 abbrev pub Fits : Named → Type 0
 Fits named = (refusal : Refusal) → IsMistyped named refusal → ⊥
 
--- A command takes the module, and writes this. `check` takes it where it has types.
+-- A command takes the module, and writes this. `check` takes it where it has types, `list` where it has code too.
 
 abbrev pub WritesOk : Named → List ℕ → Type 0
 WritesOk named output = (found : ModuleTypes) × (types_of named ≡ Ok found) × (output ≡ ok_line)
+
+-- its types are these, each of its statements and functions has code, and this is the listing of its image
+pub record WritesListing (named : Named) (output : List ℕ) : Type 0 where
+  pub found : ModuleTypes
+  pub typed : types_of named ≡ Ok found
+  pub built : unbuilt_of found ≡ None
+  pub listing : output ≡ listing_of (module_image found).codes (module_image found).constants
 
 abbrev pub WritesPrinted : Named → List ℕ → Type 0
 WritesPrinted named output = Fits named × Prints named.«module» output
 
 abbrev pub Writes : Command → Named → List ℕ → Type 0
-Writes Check named output = WritesOk named output
-Writes Run named output = WritesPrinted named output
+Writes commands.Check named output = WritesOk named output
+Writes commands.List named output = WritesListing named output
+Writes commands.Run named output = WritesPrinted named output
 
--- A command refuses the module so: `check` by E12, or E27 of a form whose types aren't built; `run` by E12, or else E27 of what it
--- doesn't run.
+-- A command refuses the module so: `check` by E12, or E27 of a form whose types aren't built; `list` as `check`, or else by E27 of what
+-- has no code; `run` by E12, or else E27 of what it doesn't run.
 
 abbrev pub IsUntyped : Named → Refusal → Type 0
 IsUntyped named refusal = types_of named ≡ Err refusal
+
+-- it has types, and this is the first thing in it without code
+pub record IsWithoutCode (named : Named) (refusal : Refusal) : Type 0 where
+  pub found : ModuleTypes
+  pub typed : types_of named ≡ Ok found
+  pub unbuilt : unbuilt_of found ≡ Some refusal
+
+abbrev pub IsNotListed : Named → Refusal → Type 0
+IsNotListed named refusal = IsUntyped named refusal ⊎ IsWithoutCode named refusal
 
 abbrev pub IsNotRun : Named → Refusal → Type 0
 IsNotRun named refusal = IsMistyped named refusal ⊎ (Fits named × IsUnbuilt named.«module» refusal)
 
 abbrev pub IsNotTaken : Command → Named → Refusal → Type 0
-IsNotTaken Check named refusal = IsUntyped named refusal
-IsNotTaken Run named refusal = IsNotRun named refusal
+IsNotTaken commands.Check named refusal = IsUntyped named refusal
+IsNotTaken commands.List named refusal = IsNotListed named refusal
+IsNotTaken commands.Run named refusal = IsNotRun named refusal
 
 -- the text is accepted: it is a module that breaks no rule and that the command takes, and this is written
 pub record IsAccepted (command : Command) (text output : List ℕ) : Type 0 where
@@ -90,5 +111,5 @@ pub data IsTextRefused (command : Command) (text : List ℕ) (refusal : Refusal)
       → IsTextRefused command text refusal
   -- E10, E11, E13 or E27 of names
   bad_names : (m : Module) → IsModuleText text m → IsFirst (BreaksNames m) (Some refusal) → IsTextRefused command text refusal
-  -- E12 where types don't fit, or E27 at what isn't built
+  -- E12 where types don't fit, or E27 at what isn't built or has no code
   not_taken : (named : Named) → IsNamedText text named → IsNotTaken command named refusal → IsTextRefused command text refusal

@@ -1,12 +1,13 @@
 -- What the words of a command line ask for.
 use Rattle.std.specs.Prelude.{◌≡◌, ◌≢◌, ℕ, List, [], ◌∷◌, ◌++◌, codes}
 use Rattle.px_cli.specs.declared.words.Command.{Command}
-use Rattle.px_cli.specs.declared.words.Command.TheVariants.{Check, Run}
+use Rattle.px_cli.specs.declared.words.Command.TheVariants as commands
 
 -- the word of a command
 abbrev pub command_word : Command → List ℕ
-command_word Check = codes "check"
-command_word Run = codes "run"
+command_word commands.Check = codes "check"
+command_word commands.List = codes "list"
+command_word commands.Run = codes "run"
 
 -- The words ask for this command on this file: a name that is there and doesn't begin with the mark of an option.
 pub record Asks (command : Command) (words : List (List ℕ)) (file : List ℕ) : Type 0 where
@@ -17,7 +18,7 @@ pub record Asks (command : Command) (words : List (List ℕ)) (file : List ℕ) 
 -- the commands that the call without a run serves, and all that are built
 
 abbrev pub checking_commands : List Command
-checking_commands = Check ∷ []
+checking_commands = commands.Check ∷ commands.List ∷ []
 
 abbrev pub all_commands : List Command
-all_commands = Check ∷ Run ∷ []
+all_commands = commands.Check ∷ commands.List ∷ commands.Run ∷ []

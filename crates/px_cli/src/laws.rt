@@ -1,5 +1,6 @@
-ghost use Rattle.px_cli.specs.Laws.{AnswersAreUnique, CallsAreComplete};
+ghost use Rattle.px_cli.specs.Laws.{AnswersAreUnique, CallsAreComplete, ListingsMeanTheirModules};
 
+use px_compile::images_mean_their_modules;
 use px_names::named_modules_are_unique;
 use px_parser::laws::parsing_is_unique;
 use px_types::typed_trees_are_unique;
@@ -19,4 +20,11 @@ pub fn calls_are_complete()
     ensures { CallsAreComplete }
 {
     answers_are_unique();
+}
+
+/// What `list` writes of a module is the listing of an image that means the module.
+pub fn listings_mean_their_modules()
+    ensures { ListingsMeanTheirModules }
+{
+    images_mean_their_modules();
 }

@@ -4,6 +4,7 @@
 mod arithmetic;
 mod expressions;
 mod laws;
+mod listings;
 mod phases;
 mod replies;
 mod running;
@@ -13,5 +14,5 @@ mod variables;
 mod words;
 mod writing;
 
-pub use laws::{answers_are_unique, calls_are_complete};
+pub use laws::{answers_are_unique, calls_are_complete, listings_mean_their_modules};
 pub use top_call::{Report, check_main, cython_main, tell_no_memory};

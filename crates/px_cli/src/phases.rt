@@ -5,6 +5,7 @@ ghost use Rattle.px_base.specs.Troubles.{IfRefused};
 ghost use Rattle.px_cli.specs.declared.words.Command.{Command};
 ghost use Rattle.px_cli.specs.Phases.{Fits, IsAccepted, IsMistyped, IsModuleText, IsNamedText, IsNotRun, IsNotTaken, IsTextRefused, IsUntyped, Writes, WritesOk, WritesPrinted};
 
+use crate::listings::listed;
 use crate::running::run_module;
 use crate::words::Command;
 use px_base::{Bytes, NoMemory, Refusal, Trouble};
@@ -93,6 +94,7 @@ fn output_for(alloc: Global, command: Command, named: Named) -> Result<Bytes, Tr
 {
     match command {
         Command::Check => checked_line(alloc, named),
+        Command::List => listed(alloc, named),
         Command::Run => printed(alloc, named),
     }
 }

@@ -15,8 +15,8 @@ pub struct Report {
     pub status: Status,
 }
 
-/// Answers a command line: `check FILE` by `check_main`, and `run FILE`, which reads the module FILE from the library, runs it and
-/// writes what it prints on `out`; all other words are no command line.
+/// Answers a command line: `check FILE` and `list FILE` by `check_main`, and `run FILE`, which reads the module FILE from the library,
+/// runs it and writes what it prints on `out`; all other words are no command line.
 ///
 /// The output is kept and written at the end, then a line on `err` for each status but 0 and 6. After a write that fails
 /// nothing more is written, and the status is that of a broken sink. Neither the input nor the gate is used.
@@ -36,14 +36,14 @@ pub fn cython_main<L: Library, I: Source, O: Sink, E: Sink, G: Gate>(
         (taking_of (O.taken out.old) (O.taken out.new) (O.faults out.old) (O.faults out.new))
         (taking_of (E.taken err.old) (E.taken err.new) (E.faults err.old) (E.faults err.new)) }
 {
-    match file_for(Command::Check, words) {
-        Some(_) => check_main(alloc, words, library, input, out, err),
-        None => report_of(alloc, Command::Run, words, library, out, err),
+    match file_for(Command::Run, words) {
+        Some(_) => report_of(alloc, Command::Run, words, library, out, err),
+        None => check_main(alloc, words, library, input, out, err),
     }
 }
 
 /// Answers a command line without a run: `check FILE` reads the module FILE from the library, and writes `ok` and a line end on `out`
-/// where it is accepted; all other words are no command line here.
+/// where it is accepted; `list FILE` writes the listing of its code; all other words are no command line here.
 ///
 /// What is written, and when, is as in `cython_main`.
 pub fn check_main<L: Library, I: Source, O: Sink, E: Sink>(
@@ -61,7 +61,10 @@ pub fn check_main<L: Library, I: Source, O: Sink, E: Sink>(
         (taking_of (O.taken out.old) (O.taken out.new) (O.faults out.old) (O.faults out.new))
         (taking_of (E.taken err.old) (E.taken err.new) (E.faults err.old) (E.faults err.new)) }
 {
-    report_of(alloc, Command::Check, words, library, out, err)
+    match file_for(Command::List, words) {
+        Some(_) => report_of(alloc, Command::List, words, library, out, err),
+        None => report_of(alloc, Command::Check, words, library, out, err),
+    }
 }
 
 /// Answers the words of one command, and all other words as no command line.

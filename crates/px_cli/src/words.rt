@@ -6,6 +6,8 @@ ghost use Rattle.px_cli.specs.Words.{Asks, command_word};
 pub enum Command {
     /// Tells whether a module is accepted.
     Check,
+    /// Lists the code of a module.
+    List,
     /// Runs a module.
     Run,
 }
@@ -16,6 +18,7 @@ fn word_of(command: Command) -> &'static str
 {
     match command {
         Command::Check => "check",
+        Command::List => "list",
         Command::Run => "run",
     }
 }
