@@ -127,6 +127,12 @@ pub fn check_row(row: &mut Row) {
     call_calmly(row, TopCall::Check, "check m.pyx", &mut library);
 }
 
+/// A text whose code is listed, and what is given.
+pub fn list_row(row: &mut Row) {
+    let mut library = module_library(row);
+    call_calmly(row, TopCall::Check, "list m.pyx", &mut library);
+}
+
 /// A text that is run, the scripts of the output and of the errors, and what is given.
 pub fn scripted_row(row: &mut Row) {
     let mut library = module_library(row);

@@ -1,6 +1,8 @@
 //! The sections of rows, by their names.
 use crate::arithmetic_rows::arithmetic_row;
-use crate::command_rows::{TopCall, check_row, command_row, run_row, scripted_row, starved_row};
+use crate::command_rows::{
+    TopCall, check_row, command_row, list_row, run_row, scripted_row, starved_row,
+};
 use crate::expression_rows::{
     expression_row, extent_row, limit_row, long_row, nesting_row, start_row,
 };
@@ -35,6 +37,7 @@ pub enum Section {
     CheckCommands,
     Runs,
     Checks,
+    Listings,
     ScriptedCommands,
     StarvedCommands,
     Libraries,
@@ -56,7 +59,7 @@ pub enum Section {
 }
 
 /// The names of the sections.
-const SECTIONS: [(&str, Section); 34] = [
+const SECTIONS: [(&str, Section); 35] = [
     ("tokens", Section::Tokens),
     ("long texts", Section::LongTexts),
     ("expressions", Section::Expressions),
@@ -73,6 +76,7 @@ const SECTIONS: [(&str, Section); 34] = [
     ("check commands", Section::CheckCommands),
     ("runs", Section::Runs),
     ("checks", Section::Checks),
+    ("listings", Section::Listings),
     ("scripted commands", Section::ScriptedCommands),
     ("starved commands", Section::StarvedCommands),
     ("libraries", Section::Libraries),
@@ -148,6 +152,7 @@ fn judge_call(section: Section, row: &mut Row) {
         Section::CheckCommands => command_row(row, TopCall::Check),
         Section::Runs => run_row(row),
         Section::Checks => check_row(row),
+        Section::Listings => list_row(row),
         Section::ScriptedCommands => scripted_row(row),
         Section::StarvedCommands => starved_row(row),
         Section::Libraries => library_row(row),
