@@ -3,3 +3,4 @@ mod StatementParts
 mod FineFits
 mod FineStatementFits
 mod ModuleFits
+mod NoReturns

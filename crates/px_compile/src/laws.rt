@@ -9,8 +9,10 @@ ghost use Rattle.px_code_laws.specs.Compiled.{IsCompiled};
 ghost use Rattle.px_types.specs.TypedModule.{module_kept};
 ghost use Rattle.px_compile.specs.FitModules.{unbuilt_of};
 ghost use Rattle.px_compile.specs.ModuleImage.{module_image};
+ghost use Rattle.px_compile.specs.ModuleRuns.{BuiltImagesRun, BuiltModulesHaveOutcomes};
 
-use px_code_laws::{code_means_its_module, code_runs};
+use px_code_laws::{code_means_its_module, code_runs, compiled_modules_have_outcomes};
+use px_machine::laws::images_give_the_meaning;
 
 /// The image of a module in which nothing is without code is the code of the module, and means it.
 pub fn images_mean_their_modules()
@@ -25,4 +27,15 @@ pub fn images_run()
     ensures { (typed : Typed) → unbuilt_of (module_kept typed) ≡ None → AllRun (module_image (module_kept typed)) }
 {
     code_runs();
+}
+
+/// A module that has types, and in which nothing is without code, has a meaning on each input, for every number of turns and size of its
+/// team; and the main member of its image runs to its end and gives just that.
+pub fn built_modules_have_outcomes()
+    ensures outcome { BuiltModulesHaveOutcomes }
+    ensures run { BuiltImagesRun }
+{
+    code_means_its_module();
+    compiled_modules_have_outcomes();
+    images_give_the_meaning();
 }

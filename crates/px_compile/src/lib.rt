@@ -9,5 +9,5 @@ mod statements;
 mod trees;
 
 pub use coding::codes;
-pub use laws::{images_mean_their_modules, images_run};
+pub use laws::{built_modules_have_outcomes, images_mean_their_modules, images_run};
 pub use modules::unbuilt;
