@@ -91,7 +91,8 @@ makes : (h : TypedHead) (number : ℕ) (at : Span) (parts : Outcome (List TypedR
 makes h number at parts plain = when_made IsPlain (λ trees. typed_node h number at trees) parts plain
 
 module _ (environment : Environment) (outside : environment.gives ≡ None) where
-  declared : (variable : Option Variable) (number : ℕ) (at : Span) (parts : List Tree) → When HasNoReturn (declared_by environment variable number at parts)
+  declared : (variable : Option Variable) (number : ℕ) (at : Span) (parts : List Tree)
+      → When HasNoReturn (declared_by environment variable number at parts)
   declared None number at parts = tt
   declared (Some variable) number at [] = tt
   declared (Some variable) number at (part ∷ parts) =
@@ -134,10 +135,12 @@ module _ (environment : Environment) (outside : environment.gives ≡ None) wher
       (when_mapped AllNoReturns AreNoReturns flat (all_of (map (declaration environment) trees)) (declarations trees) (λ lists p. flattened lists p))
       (λ parts p. p)
 
-  assigns : (number : ℕ) (at : Span) (targets : List (Outcome TypedRose)) (tree : Outcome TypedRose) → When IsPlain (assignment number at targets tree)
+  assigns : (number : ℕ) (at : Span) (targets : List (Outcome TypedRose)) (tree : Outcome TypedRose)
+      → When IsPlain (assignment number at targets tree)
   assigns number at [] tree = when_made IsPlain (λ t. typed_node head.Expression number at (t ∷ [])) tree (λ t. tt)
   assigns number at (target ∷ []) tree =
-      when_followed IsPlain (both target (followed tree valued)) (assigned number at) (λ parts. makes head.Assign number at (fitted_to parts) (λ trees. tt))
+      when_followed IsPlain (both target (followed tree valued)) (assigned number at)
+      (λ parts. makes head.Assign number at (fitted_to parts) (λ trees. tt))
   assigns number at (target ∷ next ∷ targets) tree =
       when_followed IsPlain (both (all_of (target ∷ next ∷ targets)) (followed tree valued)) (assigned_each number at)
       (λ parts. when_made IsPlain (λ steps. typed_node head.AssignEach number at (steps ++ parts.1 ∷ []))
@@ -157,7 +160,8 @@ module _ (environment : Environment) (outside : environment.gives ≡ None) wher
           → When IsPlain (if b then range_loop number at (expression environment target) (operands_below environment tree) block else unbuilt at)
       by_range true =
           when_made IsPlain (range_parts number at)
-          (both (both (mapped trees_of (followed (expression environment target) operand)) (range_arguments (operands_below environment tree))) (all_of block))
+          (both (both (mapped trees_of (followed (expression environment target) operand)) (range_arguments (operands_below environment tree)))
+          (all_of block))
           (λ parts. tt)
       by_range false = tt
 
@@ -172,7 +176,8 @@ module _ (environment : Environment) (outside : environment.gives ≡ None) wher
       assigns number at (map (expression environment) (take targets parts)) (expression_at environment at (slice_get parts targets))
   by_form (form.Augment op) looped number at parts inner =
       when_followed IsPlain
-      (both (followed (expression_at environment at (slice_get parts 0)) operand) (followed (expression_at environment at (slice_get parts 1)) operand))
+      (both (followed (expression_at environment at (slice_get parts 0)) operand)
+      (followed (expression_at environment at (slice_get parts 1)) operand))
       (augmented environment.cdivision number at op)
       (λ pair. makes (head.Augment op) number at
       (fitted_to (pair.0.0, binary_step environment.cdivision number at op (given number (at_of pair.0.0) pair.0.1) pair.1)) (λ trees. tt))
@@ -211,7 +216,8 @@ plain_types : (named : Named) → When (λ found. ArePlain found.code) (module_t
 plain_types named =
     when_mapped (λ parts. ArePlain parts.0 × Unit {0}) (λ found. ArePlain found.code) module_with (both (code_types named) (functions_types named))
     (when_both ArePlain (λ functions. Unit {0}) (code_types named) (functions_types named)
-    (plain_block (module_environment (functions_of named.«module») named.code) refl (statements_of named.«module»)) (nothing_said (functions_types named)))
+    (plain_block (module_environment (functions_of named.«module») named.code) refl (statements_of named.«module»))
+    (nothing_said (functions_types named)))
     (λ parts p. p.0)
   where
     nothing_said : (o : Outcome (List FunctionTypes)) → When (λ functions. Unit {0}) o
@@ -246,4 +252,5 @@ no_returns c registers (tree ∷ trees) compiled plain =
 pub code_has_no_return : (named : Named) (found : ModuleTypes) → types_of named ≡ Ok found → (image : ImageParts) → IsCompiled image (source_in found)
     → HaveNoReturn (gathered found.code)
 code_has_no_return named found is image compiled =
-    no_returns _ compiled.code.registers found.code compiled.is_code.compiled (subst (When (λ m. ArePlain m.code)) is (plain_unless (unbuilt_in named) named))
+    no_returns _ compiled.code.registers found.code compiled.is_code.compiled
+    (subst (When (λ m. ArePlain m.code)) is (plain_unless (unbuilt_in named) named))

@@ -10,7 +10,8 @@ pub returns-clause-outcome : goal.returns-clause-outcome
 returns-clause-outcome c = λ named found typed built input turns members.
     let image = module_image found in
     let compiled = is_compiled found built in
-    c.compiled_modules_have_outcomes.ensures image (source_in found) compiled (code_has_no_return named found typed image compiled) input turns members
+    c.compiled_modules_have_outcomes.ensures image (source_in found) compiled
+    (code_has_no_return named found typed image compiled) input turns members
 
 pub returns-clause-run : goal.returns-clause-run
 returns-clause-run c = λ named typed has_types built input turns members.
@@ -18,9 +19,11 @@ returns-clause-run c = λ named typed has_types built input turns members.
     let image = module_image found in
     let source = source_in found in
     let compiled = is_compiled found built in
-    let o = c.compiled_modules_have_outcomes.ensures image source compiled (code_has_no_return named found has_types image compiled) input turns members in
+    let o = c.compiled_modules_have_outcomes.ensures image source compiled
+    (code_has_no_return named found has_types image compiled) input turns members in
     subst (λ text. RunsToOutcome image text input turns members) (sym (same_source typed)) (record {
       outcome = o.outcome;
       means = o.is;
-      gives = c.images_give_the_meaning.ensures image source input turns members o.outcome (c.code_means_its_module.ensures image source compiled) o.is;
+      gives = c.images_give_the_meaning.ensures image source input turns members o.outcome
+          (c.code_means_its_module.ensures image source compiled) o.is;
     })
