@@ -25,4 +25,6 @@ pub mod FormedExpressions
 pub mod FormedStates
 pub mod FormedPrinting
 pub mod FormedStatements
+pub mod Tabled
+pub mod Placed
 mod Examples

@@ -3,3 +3,4 @@ pub mod Fine
 pub mod FineStatements
 pub mod Compiled
 pub mod Outcomes
+pub mod Whole
