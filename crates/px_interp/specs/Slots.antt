@@ -1,5 +1,5 @@
 -- What registers hold, as the definitions of the machine have it, and the references among it.
-use Rattle.std.specs.Prelude.{ℤ, List, [], ◌∷◌, map, Option, Some, None}
+use Rattle.std.specs.Prelude.{Bool, true, false, ℤ, List, [], ◌∷◌, map, Option, Some, None}
 use Rattle.std.specs.List.{flat_map}
 use Rattle.px_heap.specs.declared.values.Serial.{Serial}
 use Rattle.px_views.specs.Cells.{view_cells}
@@ -30,6 +30,13 @@ object_in Empty = None
 object_in (Whole n) = None
 object_in (View v) = None
 object_in (Fault f) = None
+
+abbrev pub is_empty_slot : Slot → Bool
+is_empty_slot Empty = true
+is_empty_slot (Whole n) = false
+is_empty_slot (Object of) = false
+is_empty_slot (View v) = false
+is_empty_slot (Fault f) = false
 
 -- the references that registers hold
 

@@ -1,5 +1,5 @@
 ghost use Rattle.std.specs.Prelude.{◌≡◌, IfOk, replicate, slice_index_or, slice_set};
-ghost use Rattle.px_interp.specs.Slots.{number_in, object_in};
+ghost use Rattle.px_interp.specs.Slots.{is_empty_slot, number_in, object_in};
 ghost use Rattle.px_interp.specs.declared.registers.Slot.TheVariants.{Empty};
 
 use px_base::{Fault, NoMemory};
@@ -68,6 +68,19 @@ impl Registers {
         match self.slots.get(a.number as usize) {
             Some(Slot::Object(of)) => Some(*of),
             _ => None,
+        }
+    }
+
+    /// Whether a register holds nothing.
+    pub fn is_empty(&self, a: Register) -> bool
+        ensures { result ≡ is_empty_slot (slice_index_or self.now a.number Empty) }
+    {
+        match self.slots.get(a.number as usize) {
+            Some(Slot::Whole(_)) => false,
+            Some(Slot::Object(_)) => false,
+            Some(Slot::View(_)) => false,
+            Some(Slot::Fault(_)) => false,
+            _ => true,
         }
     }
 
