@@ -1,0 +1,10 @@
+mod Moves
+mod Kept
+mod Words
+mod Rows
+mod Runs
+mod References
+mod FrameSteps
+mod CallSteps
+mod BookSteps
+mod Beginnings
